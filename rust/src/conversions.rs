@@ -3,8 +3,8 @@
 use crate::layers::messages::{Capture, LinkMessages};
 use crate::layers::nla_frame::NlasIterator;
 use crate::{
-    AllocError, Bytes, DecodeError, ErrorIn, InfoDataOf, InfoKind, InfoPortData, InfoPortKind,
-    LinkInfoOf, LinkInfoWalk, LinkPeer, Nlas, Text, ToVecError, VecLinkInfoOf,
+    AllocError, Bytes, DataLayer, DecodeError, ErrorIn, InfoDataOf, InfoKind, InfoPortData,
+    InfoPortKind, LinkInfoOf, LinkInfoWalk, LinkLayer, Nlas, Text, ToVecError, VecLinkInfoOf,
 };
 use alloc::string::String;
 use alloc::vec::Vec;
@@ -17,7 +17,7 @@ use core::ops::Deref;
 use core::str::FromStr;
 
 /// Parses the list, as [`VecLinkInfoOf::parse`].
-impl<P: LinkPeer> TryFrom<&[u8]> for VecLinkInfoOf<P> {
+impl<P: DataLayer> TryFrom<&[u8]> for VecLinkInfoOf<P> {
     type Error = DecodeError;
 
     fn try_from(bytes: &[u8]) -> Result<VecLinkInfoOf<P>, DecodeError> {
@@ -26,7 +26,7 @@ impl<P: LinkPeer> TryFrom<&[u8]> for VecLinkInfoOf<P> {
 }
 
 /// The canonical encoding, as [`VecLinkInfoOf::to_vec`].
-impl<P: LinkPeer> TryFrom<&VecLinkInfoOf<P>> for Vec<u8> {
+impl<P: DataLayer> TryFrom<&VecLinkInfoOf<P>> for Vec<u8> {
     type Error = ToVecError;
 
     fn try_from(list: &VecLinkInfoOf<P>) -> Result<Vec<u8>, ToVecError> {
@@ -44,35 +44,35 @@ impl fmt::Display for ErrorIn {
 impl Error for ErrorIn {}
 
 /// The list of the items. It aborts where memory runs out, as `Vec` does.
-impl<P> FromIterator<LinkInfoOf<P>> for VecLinkInfoOf<P> {
+impl<P: LinkLayer> FromIterator<LinkInfoOf<P>> for VecLinkInfoOf<P> {
     fn from_iter<I: IntoIterator<Item = LinkInfoOf<P>>>(items: I) -> VecLinkInfoOf<P> {
         VecLinkInfoOf::from(Vec::from_iter(items))
     }
 }
 
 /// The list of the items. It aborts where memory runs out, as `Vec` does.
-impl<P, const N: usize> From<[LinkInfoOf<P>; N]> for VecLinkInfoOf<P> {
+impl<P: LinkLayer, const N: usize> From<[LinkInfoOf<P>; N]> for VecLinkInfoOf<P> {
     fn from(items: [LinkInfoOf<P>; N]) -> VecLinkInfoOf<P> {
         VecLinkInfoOf::from(Vec::from(items))
     }
 }
 
 /// The attributes, in order. The `Vec` is moved, not copied.
-impl<P> From<VecLinkInfoOf<P>> for Vec<LinkInfoOf<P>> {
+impl<P: LinkLayer> From<VecLinkInfoOf<P>> for Vec<LinkInfoOf<P>> {
     fn from(list: VecLinkInfoOf<P>) -> Vec<LinkInfoOf<P>> {
         list.into_vec()
     }
 }
 
 /// The list without attributes, of which the encoding is the empty string. Does not allocate.
-impl<P> Default for VecLinkInfoOf<P> {
+impl<P: LinkLayer> Default for VecLinkInfoOf<P> {
     fn default() -> VecLinkInfoOf<P> {
         VecLinkInfoOf(Nlas::default())
     }
 }
 
 /// Adds the attributes at the end. It aborts where memory runs out, as `Vec` does.
-impl<P> Extend<LinkInfoOf<P>> for VecLinkInfoOf<P> {
+impl<P: LinkLayer> Extend<LinkInfoOf<P>> for VecLinkInfoOf<P> {
     fn extend<I: IntoIterator<Item = LinkInfoOf<P>>>(&mut self, items: I) {
         self.0.extend(items);
     }
@@ -81,7 +81,7 @@ impl<P> Extend<LinkInfoOf<P>> for VecLinkInfoOf<P> {
 /// Calls that return the last attribute of a type in a list, by its variant.
 macro_rules! last_attributes {
     ($($(#[$doc:meta])* $name:ident: $variant:ident($contents:ty);)*) => {
-        impl<P> VecLinkInfoOf<P> {$(
+        impl<P: LinkLayer> VecLinkInfoOf<P> {$(
             $(#[$doc])*
             #[must_use]
             pub fn $name(&self) -> Option<&$contents> {
@@ -121,7 +121,7 @@ last_attributes! {
     port_data: PortData(InfoPortData);
 }
 
-impl<P> Deref for VecLinkInfoOf<P> {
+impl<P: LinkLayer> Deref for VecLinkInfoOf<P> {
     type Target = [LinkInfoOf<P>];
 
     fn deref(&self) -> &[LinkInfoOf<P>] {

@@ -1,7 +1,7 @@
 //! What a comparison returns, and kinds, as text; and the offset of the error of one of two lists.
 
 use crate::{
-    Bytes, Difference, ErrorAt, ErrorIn, Family, InfoKind, InfoPortKind, KindTag, LinkPeer,
+    Bytes, DataLayer, Difference, ErrorAt, ErrorIn, Family, InfoKind, InfoPortKind, KindTag,
     PortTag, Unmet, attribute_name, check_at_of,
 };
 use core::fmt;
@@ -108,7 +108,7 @@ impl ErrorIn {
     /// Returns the error with its offsets, as [`ErrorIn::at`] does, for two lists that were
     /// compared with peers of type `P`.
     #[must_use]
-    pub fn at_of<P: LinkPeer>(self, first: &[u8], second: &[u8]) -> Option<ErrorAt> {
+    pub fn at_of<P: DataLayer>(self, first: &[u8], second: &[u8]) -> Option<ErrorAt> {
         let rejected = match self {
             ErrorIn::First(_) => first,
             ErrorIn::Second(_) => second,

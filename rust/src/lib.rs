@@ -125,7 +125,7 @@ mod operators;
 
 // The list, its data, and what they own.
 #[doc(inline)]
-pub use layers::data::{InfoData, InfoDataOf, InfoPortData};
+pub use layers::data::{DataLayer, InfoData, InfoDataOf, InfoPortData, InfoPortDataOf};
 #[doc(inline)]
 pub use layers::link::{
     LinkInfo, LinkInfoItem, LinkInfoOf, LinkInfoWalk, LinkXstats, VecLinkInfo, VecLinkInfoOf,
@@ -191,11 +191,11 @@ pub use layers::tunnels::{
 };
 // End: written by tables/generate.
 
-// Families with a peer, custom peers and custom families.
+// Families with a peer, custom peers, families and layers.
 #[doc(inline)]
 pub use layers::peers::{InfoNetkit, InfoVeth, InfoVxcan};
 #[doc(inline)]
-pub use layers::table::{LinkFamily, LinkPeer, PeerFault};
+pub use layers::table::{LinkFamily, LinkLayer, LinkPeer, PeerFault};
 
 // Numbers and flags.
 #[doc(inline)]

@@ -5,7 +5,7 @@
 //! while [`VecLinkInfoOf::kind`] is the kind of the link.
 
 use crate::layers::nla_frame::{emit_nlas, nlas_fit_len};
-use crate::{LinkPeer, ToVecError, VecLinkInfoOf};
+use crate::{DataLayer, ToVecError, VecLinkInfoOf};
 use netlink_packet_core::{DecodeError, DefaultNla, Nla, NlaBuffer, Parseable};
 use std::string::ToString;
 
@@ -22,7 +22,7 @@ const LONGEST: usize = 65531;
 /// `value_len` and `emit_value`, and so `Emitable` of the list, panic where the list does not fit
 /// an attribute: where it, or a payload in it, has more than 65,531 bytes. `DefaultNla::try_from`
 /// of the list reports that.
-impl<P: LinkPeer> Nla for VecLinkInfoOf<P> {
+impl<P: DataLayer> Nla for VecLinkInfoOf<P> {
     fn value_len(&self) -> usize {
         fitting_len(self).expect("the list fits an attribute")
     }
@@ -42,7 +42,7 @@ impl<P: LinkPeer> Nla for VecLinkInfoOf<P> {
 }
 
 /// The length of the canonical encoding, where that fits an attribute.
-fn fitting_len<P: LinkPeer>(list: &VecLinkInfoOf<P>) -> Option<usize> {
+fn fitting_len<P: DataLayer>(list: &VecLinkInfoOf<P>) -> Option<usize> {
     nlas_fit_len(list.as_slice()).filter(|length| *length <= LONGEST)
 }
 
@@ -51,7 +51,7 @@ fn fitting_len<P: LinkPeer>(list: &VecLinkInfoOf<P>) -> Option<usize> {
 ///
 /// The error is `Unfit` where the list does not fit an attribute, and `Memory` where an allocation
 /// failed.
-impl<P: LinkPeer> TryFrom<&VecLinkInfoOf<P>> for DefaultNla {
+impl<P: DataLayer> TryFrom<&VecLinkInfoOf<P>> for DefaultNla {
     type Error = ToVecError;
 
     fn try_from(list: &VecLinkInfoOf<P>) -> Result<DefaultNla, ToVecError> {
@@ -64,7 +64,7 @@ impl<P: LinkPeer> TryFrom<&VecLinkInfoOf<P>> for DefaultNla {
 /// is an error.
 impl<'a, P, T> Parseable<NlaBuffer<&'a T>> for VecLinkInfoOf<P>
 where
-    P: LinkPeer,
+    P: DataLayer,
     T: AsRef<[u8]> + ?Sized,
 {
     fn parse(attribute: &NlaBuffer<&'a T>) -> Result<VecLinkInfoOf<P>, DecodeError> {
@@ -76,7 +76,7 @@ where
 }
 
 /// Parses the contents of `IFLA_LINKINFO`, as [`VecLinkInfoOf::parse`].
-impl<P: LinkPeer> Parseable<[u8]> for VecLinkInfoOf<P> {
+impl<P: DataLayer> Parseable<[u8]> for VecLinkInfoOf<P> {
     fn parse(bytes: &[u8]) -> Result<VecLinkInfoOf<P>, DecodeError> {
         Ok(VecLinkInfoOf::parse(bytes)?)
     }

@@ -8,6 +8,8 @@ COLUMNS = ["code", "kind", "variant", "data", "what"]
 # Each group of data, and the crate of its families.
 GROUPS = {"Lower": "linkinfo_table::lower", "Device": "linkinfo_devices",
           "Tunnel": "linkinfo_tunnels", "Peered": "linkinfo_peers"}
+# The data whose families the layer supplies (`LinkLayer` of linkinfo_table).
+SUPPLIED = {"Bond", "Bridge", "Vlan", "Can", "Hsr", "Dsa", "Tun"}
 # The lengths of names for which `tag_of_name` has an arm; those above four are compared as u64.
 LENGTHS = {3: "three", 4: "four", 5: "five", 6: "six", 7: "seven", 9: "nine"}
 

@@ -9,12 +9,11 @@ DATA = {"data": "data (`IFLA_INFO_DATA`)", "port data": "port data (`IFLA_INFO_S
 
 def group_row(group):
     """What templates have of a group of data: files, functions, and what their clauses name."""
-    crate, peered = kinds.GROUPS[group], group == "Peered"
+    crate = kinds.GROUPS[group]
     files = re.split("::|_", crate)[-1]
     return {"Group": group, "group": group.lower(), "of": crate, "groups": files,
-            "specs": f"{files.removesuffix('s').capitalize()}Data", "peer": "peer " * peered,
-            "known": "peer" if peered else "P", "well": "well " * peered,
-            "paired": "peer netkit" if peered else "P", "flagged": "h " * (group == "Tunnel")}
+            "specs": f"{files.removesuffix('s').capitalize()}Data",
+            "flagged": "h " * (group == "Tunnel")}
 
 
 def coded(rows):
@@ -45,18 +44,21 @@ def data_row(ours, families, names):
         raise kind.line.bad(f"no family of {kinds.GROUPS[kind.group]} is {kind.data}, and no table "
                             f"of one has the kind {kind.name}")
     form, first = form_of(family), bool(family) and name == family.name
+    form = "supplied" if kind.data in kinds.SUPPLIED else form
     holder = f"Info{name}" + "Of" * (form in ("first", "peers"))
+    of = {"first": f"{holder}<P::Peer>", "peers": f"{holder}<P::Peer>", "supplied": f"P::{name}"}
     prefix = family and (family.prefix if first else family.twin_prefix)
     return {
         "form": form, "data": kind.data, "variant": kind.variant, "family": name,
         "plain": snake(name), "it": family.snake if family else "", "holder": holder,
         "declared": family.snake if form == "twin" else name,
         "module": family.module if first else name.lower(),
-        "type": f"{holder}<P>" if holder.endswith("Of") else holder,
+        "type": of.get(form, holder),
         "members": family and f"{family.type}Of {int(not first)}", "crate": crate,
         "spec": family and family.spec, "names": f" (`{prefix}*`)" if family else "",
         "these": listed(family.kinds) if family else "",
-        "verbatim": ", kept verbatim" * (form == "opaque"),
+        "verbatim": {"opaque": ", kept verbatim", "supplied": ", which the layer supplies"}.get(
+            form, ""),
         "links": listed([f"`{it.name}`" for it in ours]),
         "tags": " | ".join(f"KindTag::{it.variant}" for it in ours), **group_row(kind.group)}
 
@@ -111,7 +113,9 @@ def outputs(tables):
     rows = data_rows(tables)
     groups = [[row for row in rows if row["Group"] == group] for group in kinds.GROUPS]
     ordered = unique([row for group in groups[1:] for row in group], "plain")
-    listed_in = [row for row in ordered if row["form"] not in ("opaque", "peers", "first")]
+    own = [[row for row in group if row["form"] != "supplied"] for group in groups]
+    listed_in = [row for row in ordered
+                 if row["form"] not in ("opaque", "supplied", "peers", "first")]
     found = of_kinds(tables, kinds.read(tables.root, "ports"), {row["data"]: row for row in rows})
     found |= {"data": rows, "tables": unique(listed_in, "declared"), "plain": listed_in,
               "flat": [row for row in ordered if not row["form"]], "Tunnel": groups[2],
@@ -122,8 +126,11 @@ def outputs(tables):
         **{name: [({}, given)] for name, given in found.items()},
         **number_types.selections(tables.numbers),
         "group": [(group[0], group) for group in groups],
+        "inside": [(group[0], group) for group in groups
+                   if any(row["form"] == "supplied" for row in group)],
         "named": [(group[0], named(group)) for group in groups],
         "types by group": [(group[0], typed(group)) for group in groups],
+        "own types by group": [(group[0], typed(group)) for group in own if group],
         "rows by group": [(group[0], typed([row for row in group if row in listed_in]))
                           for group in groups[1:]],
         "length": [({"word": word}, [row for row in found["kinds"] if len(row["name"]) == length])

@@ -12,7 +12,7 @@ use Rattle.linkinfo_table.specs.declared.last.PlacedNla.{PlacedNla}
 use Rattle.linkinfo_data.specs.Data.{data_known, data_nest, data_nested_in, data_of, family_of}
 use Rattle.linkinfo_data.specs.Difference.{differ, first_or, inner_difference}
 use Rattle.linkinfo_data.specs.Difference.{pairs_difference}
-use Rattle.linkinfo_table.specs.declared.peer.LinkPeer.{Ghosts}
+use Rattle.linkinfo_table.specs.Layers.{Families, Types}
 use Rattle.linkinfo_data.specs.Listed.{IsKnown, IsNested}
 use Rattle.linkinfo_data.specs.Listing.{Listing, family_in}
 use Rattle.linkinfo_data.specs.Payloads.{Payload}
@@ -65,25 +65,26 @@ module _ {F X : Type 0} (data_of : F → Payload X) (nested_in : F → Option (�
           first second in
           mapped_none (inner_difference p q) _ ∙ (rw e at same)
 
-module _ {P : Type 0} (peer : Ghosts P) where
+module _ {L : Types} (layer : Families L) where
   typed : (b c : Bool) → b ≡ true → (b && c) ≡ c
   typed true c e = refl
   typed false c e = absurd cc
 
   pub role_none : (r : Role) (p q : PlacedNla) → masked q.nla.kind ≡ masked p.nla.kind →
-      IsOk (meant peer r p.nla) → IsOk (meant peer r q.nla) →
-      is_none (role_difference peer r p q) ≡ row_alike (link_row peer r) p.nla q.nla
+      IsOk (meant layer r p.nla) → IsOk (meant layer r q.nla) →
+      is_none (role_difference layer r p q) ≡ row_alike (link_row layer r) p.nla q.nla
   role_none (role.Data tag) p q e first second =
-      data_none (data_of peer) data_nested_in (data_known peer) (data_nest peer)
+      data_none (data_of layer) data_nested_in (data_known layer) (data_nest layer)
       (family_of tag) p q
-      (data_ok peer tag (role.Data tag) p.nla refl first)
-      (data_ok peer tag (role.Data tag) q.nla refl second)
+      (data_ok layer tag (role.Data tag) p.nla refl first)
+      (data_ok layer tag (role.Data tag) q.nla refl second)
       ∙ sym (typed (masked q.nla.kind == masked p.nla.kind) _
       (eq-eqb (masked q.nla.kind) (masked p.nla.kind) e))
   role_none (role.PortData tag) p q e first second =
-      data_none port_data_of (λ _. None) port_known port_nest (port_family_of tag) p q
-      (port_ok peer tag (role.PortData tag) p.nla refl first)
-      (port_ok peer tag (role.PortData tag) q.nla refl second)
+      data_none (port_data_of layer) (λ _. None) (port_known layer) (port_nest layer)
+      (port_family_of tag) p q
+      (port_ok layer tag (role.PortData tag) p.nla refl first)
+      (port_ok layer tag (role.PortData tag) q.nla refl second)
       ∙ sym (typed (masked q.nla.kind == masked p.nla.kind) _
       (eq-eqb (masked q.nla.kind) (masked p.nla.kind) e))
   role_none role.Kind p q e first second = pair_none family.LinkInfo _ p q
@@ -92,9 +93,9 @@ module _ {P : Type 0} (peer : Ghosts P) where
   role_none role.Misplaced p q e first second = pair_none family.LinkInfo _ p q
   role_none role.Unknown p q e first second = pair_none family.LinkInfo _ p q
 
-  link_none : (t : CurrentKinds) (p q : PlacedNla) → is_ok (link_meaning peer t p.nla) ≡ true →
-      is_ok (link_meaning peer t q.nla) ≡ true →
-      is_none (link_difference peer t p q) ≡ link_alike peer t p.nla q.nla
+  link_none : (t : CurrentKinds) (p q : PlacedNla) → is_ok (link_meaning layer t p.nla) ≡ true →
+      is_ok (link_meaning layer t q.nla) ≡ true →
+      is_none (link_difference layer t p q) ≡ link_alike layer t p.nla q.nla
   link_none t p q first second =
       by_types (masked q.nla.kind == masked p.nla.kind) refl
     where
@@ -102,64 +103,64 @@ module _ {P : Type 0} (peer : Ghosts P) where
       r = role_at t p.nla
 
       by_types : (b : Bool) → (masked q.nla.kind == masked p.nla.kind) ≡ b →
-          is_none (if b then role_difference peer r p q else Some (differ family.LinkInfo p q))
-          ≡ link_alike peer t p.nla q.nla
+          is_none (if b then role_difference layer r p q else Some (differ family.LinkInfo p q))
+          ≡ link_alike layer t p.nla q.nla
       by_types true same =
           let type_is = eqb-true (masked q.nla.kind) (masked p.nla.kind) same in
-          let one = true_ok (link_meaning peer t p.nla) first in
-          let other = true_ok (link_meaning peer t q.nla) second in
+          let one = true_ok (link_meaning layer t p.nla) first in
+          let other = true_ok (link_meaning layer t q.nla) second in
           role_none r p q type_is
-          (subst (λ m. IsOk m) (meaning_is peer t p.nla r refl) one)
+          (subst (λ m. IsOk m) (meaning_is layer t p.nla r refl) one)
           (subst (λ m. IsOk m)
-          (meaning_is peer t q.nla r (sym (same_role peer t p.nla q.nla type_is))) other)
-          ∙ sym (alike_is peer t p.nla q.nla r refl)
+          (meaning_is layer t q.nla r (sym (same_role layer t p.nla q.nla type_is))) other)
+          ∙ sym (alike_is layer t p.nla q.nla r refl)
       by_types false apart =
-          elim (cases_Bool (row_alike (link_row peer r) p.nla q.nla)) [
+          elim (cases_Bool (row_alike (link_row layer r) p.nla q.nla)) [
             | inl alike ↦
                 absurd (let same =
                 eq-eqb (masked q.nla.kind) (masked p.nla.kind)
-                (role_alike_after peer r t p.nla q.nla alike).0 in cc)
-            | inr not ↦ sym (alike_is peer t p.nla q.nla r refl ∙ not)
+                (role_alike_after layer r t p.nla q.nla alike).0 in cc)
+            | inr not ↦ sym (alike_is layer t p.nla q.nla r refl ∙ not)
           ]
 
   -- two accepted byte strings have a difference if and only if they are not equivalent
-  pub strings_none : (a b : List ℕ) → IsOk (reading peer a) → IsOk (reading peer b) →
-      is_none (strings_difference peer a b) ≡ alike_strings peer a b
+  pub strings_none : (a b : List ℕ) → IsOk (reading layer a) → IsOk (reading layer b) →
+      is_none (strings_difference layer a b) ≡ alike_strings layer a b
   unfolding reading alike_strings attributes_of
   strings_none a b first second =
-      pairs_none family.LinkInfo (link_difference peer) (λ t x y. link_alike peer t x y)
-      (λ t x. is_ok (link_meaning peer t x)) next_kinds (λ t p q h g. link_none t p q h g)
-      (λ t x y h g e. link_alike_after peer t x y e) no_kinds 0 0 (nla_items a) (nla_items b)
-      (sym (values_accepted (link_meaning peer) next_kinds no_kinds (nla_items a))
+      pairs_none family.LinkInfo (link_difference layer) (λ t x y. link_alike layer t x y)
+      (λ t x. is_ok (link_meaning layer t x)) next_kinds (λ t p q h g. link_none t p q h g)
+      (λ t x y h g e. link_alike_after layer t x y e) no_kinds 0 0 (nla_items a) (nla_items b)
+      (sym (values_accepted (link_meaning layer) next_kinds no_kinds (nla_items a))
       ∙ ok_true _ first)
-      (sym (values_accepted (link_meaning peer) next_kinds no_kinds (nla_items b))
+      (sym (values_accepted (link_meaning layer) next_kinds no_kinds (nla_items b))
       ∙ ok_true _ second)
 
   -- ---- a pair of attributes that does not differ
 
   pub pair_alike : (r : Role) (p q : PlacedNla) (d : Option Difference) →
-      masked q.nla.kind ≡ masked p.nla.kind → IsOk (meant peer r p.nla) →
-      IsOk (meant peer r q.nla) → d ≡ role_difference peer r p q → d ≡ None →
-      row_alike (link_row peer r) p.nla q.nla ≡ true
+      masked q.nla.kind ≡ masked p.nla.kind → IsOk (meant layer r p.nla) →
+      IsOk (meant layer r q.nla) → d ≡ role_difference layer r p q → d ≡ None →
+      row_alike (link_row layer r) p.nla q.nla ≡ true
   pair_alike r p q d e first second is none =
       sym (role_none r p q e first second)
       ∙ ap (λ (o : Option Difference). is_none o) (sym is ∙ none)
 
   abbrev pub left_difference : CurrentKinds → List PlacedNla → List PlacedNla → Option Difference
   left_difference t ps qs =
-      pairs_difference family.LinkInfo (link_difference peer) next_kinds t ps qs
+      pairs_difference family.LinkInfo (link_difference layer) next_kinds t ps qs
 
   pub pair_passes : (t : CurrentKinds) (r : Role) (k : ℕ) (p q : PlacedNla) (ps qs : List PlacedNla)
       (d : Option Difference) → r ≡ role_of t k → k ≡ masked p.nla.kind →
-      masked q.nla.kind ≡ masked p.nla.kind → d ≡ role_difference peer r p q → d ≡ None →
+      masked q.nla.kind ≡ masked p.nla.kind → d ≡ role_difference layer r p q → d ≡ None →
       left_difference t (p ∷ ps) (q ∷ qs) ≡ left_difference (next_kinds t p.nla) ps qs
   pair_passes t r k p q ps qs d is number e difference none =
       let role : role_at t p.nla ≡ r = sym (is ∙ ap (λ (n : ℕ). role_of t n) number) in
-      let same : role_difference peer (role_at t p.nla) p q ≡ None =
-      ap (λ (s : Role). role_difference peer s p q) role ∙ sym difference ∙ none in
+      let same : role_difference layer (role_at t p.nla) p q ≡ None =
+      ap (λ (s : Role). role_difference layer s p q) role ∙ sym difference ∙ none in
       passes (masked q.nla.kind == masked p.nla.kind)
       (eq-eqb (masked q.nla.kind) (masked p.nla.kind) e)
-      (role_difference peer (role_at t p.nla) p q) same
+      (role_difference layer (role_at t p.nla) p q) same
     where
       passes : (b : Bool) → b ≡ true → (o : Option Difference) → o ≡ None →
           first_or (if b then o else Some (differ family.LinkInfo p q))

@@ -5,26 +5,26 @@ use Rattle.std.specs.Prelude.{IsOk}
 use Rattle.nla_frame.specs.Answers.{verdict}
 use Rattle.nla_frame.specs.Attribute.{Attribute}
 use Rattle.nla_frame.specs.declared.error.DecodeError.{DecodeError}
-use Rattle.linkinfo_table.specs.declared.peer.LinkPeer.{Ghosts}
+use Rattle.linkinfo_table.specs.Layers.{Families, Types}
 use Rattle.linkinfo_table.specs.Lists.{append_to as front}
-use Rattle.linkinfo.specs.declared.link_info.LinkInfoOf.{LinkInfoOf}
+use Rattle.linkinfo.specs.Layered.{LinkOf}
 use Rattle.linkinfo.specs.declared.role.CurrentKinds.{CurrentKinds}
 use Rattle.linkinfo.specs.Strings.{headers_from, values_from}
 
-module _ {P : Type 0} (peer : Ghosts P) (t : CurrentKinds) (ps : List (Result Attribute ℕ))
+module _ {L : Types} (layer : Families L) (t : CurrentKinds) (ps : List (Result Attribute ℕ))
     (end : ps ≡ []) where
-  abbrev read : List (LinkInfoOf P) → Result (List (LinkInfoOf P)) DecodeError
+  abbrev read : List (LinkOf L) → Result (List (LinkOf L)) DecodeError
   read xs = Ok xs
 
-  pub read_end : (F : Result (List (LinkInfoOf P)) DecodeError) (zs : List (LinkInfoOf P)) →
-      front zs (values_from peer t ps) ≡ F → F ≡ Ok zs
+  pub read_end : (F : Result (List (LinkOf L)) DecodeError) (zs : List (LinkOf L)) →
+      front zs (values_from layer t ps) ≡ F → F ≡ Ok zs
   read_end F zs inv =
       sym inv
-      ∙ ap (λ (qs : List (Result Attribute ℕ)). front zs (values_from peer t qs)) end
+      ∙ ap (λ (qs : List (Result Attribute ℕ)). front zs (values_from layer t qs)) end
       ∙ ap read (append-nil zs)
 
-  pub headers_end : headers_from peer t ps ≡ 0
-  headers_end = ap (λ (qs : List (Result Attribute ℕ)). headers_from peer t qs) end
+  pub headers_end : headers_from layer t ps ≡ 0
+  headers_end = ap (λ (qs : List (Result Attribute ℕ)). headers_from layer t qs) end
 
 -- a byte string whose check succeeds is accepted
 pub verdict_ok : {X : Type 0} (m : Result X DecodeError) → Ok tt ≡ verdict m → IsOk m

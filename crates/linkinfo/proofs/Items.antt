@@ -59,7 +59,7 @@ use Rattle.linkinfo_numbers.specs.Name.{name_attribute}
 use Rattle.nla_frame.specs.Payload.{stripped}
 use Rattle.linkinfo_shapes.specs.Shapes.{canon, canonical, means, text_of}
 use Rattle.linkinfo_shapes.specs.declared.shape.Shape.TheVariants.{Name, Raw}
-use Rattle.linkinfo_table.specs.declared.peer.LinkPeer.{Ghosts}
+use Rattle.linkinfo_table.specs.Layers.{Families, Types}
 use Rattle.linkinfo_data.specs.Lawful.{AreLawful}
 use Rattle.linkinfo_table.specs.FamilyRows.{own, RowOwes}
 use Rattle.linkinfo_table.specs.FlatLaws.{rows_no_memory}
@@ -82,7 +82,7 @@ use Rattle.linkinfo_table.specs.RowLaws.{
   rows_quarter,
 }
 use Rattle.linkinfo_table.specs.SelfList.{inside}
-use Rattle.linkinfo.specs.declared.link_info.LinkInfoOf.{LinkInfoOf}
+use Rattle.linkinfo.specs.Layered.{LinkOf}
 use Rattle.linkinfo.specs.declared.link_info.LinkInfoOf.TheVariants as info
 use Rattle.linkinfo.specs.declared.role.CurrentKinds.{CurrentKinds}
 use Rattle.linkinfo.specs.declared.role.Role.{Role}
@@ -128,17 +128,17 @@ unknown_from_six t n =
       ne_eqb k 5 (λ h. omega (arith, h)),
     ) refl
 
-module _ {P : Type 0} (peer : Ghosts P) where
-  abbrev attribute : LinkInfoOf P → Attribute
-  attribute = link_attribute peer
+module _ {L : Types} (layer : Families L) where
+  abbrev attribute : LinkOf L → Attribute
+  attribute = link_attribute layer
 
-  abbrev good : LinkInfoOf P → Result (LinkInfoOf P) DecodeError
+  abbrev good : LinkOf L → Result (LinkOf L) DecodeError
   good x = Ok x
 
-  abbrev a_kind : InfoKind → LinkInfoOf P
+  abbrev a_kind : InfoKind → LinkOf L
   a_kind k = info.Kind k
 
-  abbrev a_port_kind : InfoPortKind → LinkInfoOf P
+  abbrev a_port_kind : InfoPortKind → LinkOf L
   a_port_kind k = info.PortKind k
 
   kinds_same : (k l : InfoKind) → a_kind k ≡ a_kind l → k ≡ l
@@ -147,7 +147,7 @@ module _ {P : Type 0} (peer : Ghosts P) where
   port_kinds_same : (k l : InfoPortKind) → a_port_kind k ≡ a_port_kind l → k ≡ l
   port_kinds_same k l e = cc
 
-  kind_owes : RowOwes attribute 1 (link_row peer role.Kind)
+  kind_owes : RowOwes attribute 1 (link_row layer role.Kind)
   kind_owes = record {
     low = lit< tt;
     codec = shape_is_codec Name;
@@ -158,7 +158,7 @@ module _ {P : Type 0} (peer : Ghosts P) where
         ∙ text_of_kind-kind_of_name y;
   }
 
-  port_kind_owes : RowOwes attribute 4 (link_row peer role.PortKind)
+  port_kind_owes : RowOwes attribute 4 (link_row layer role.PortKind)
   port_kind_owes = record {
     low = lit< tt;
     codec = shape_is_codec Name;
@@ -173,9 +173,9 @@ module _ {P : Type 0} (peer : Ghosts P) where
   not_memory : cause.Order ≢ cause.Memory
   not_memory e = absurd cc
 
-  module _ (law : AreLawful peer) where
+  module _ (law : AreLawful layer) where
     data_owes : (o : Option KindTag) →
-        RowOwes attribute 2 (link_row peer (role_under o (λ tag. role.Data tag)))
+        RowOwes attribute 2 (link_row layer (role_under o (λ tag. role.Data tag)))
     data_owes (Some tag) = record {
       low = lit< tt;
       codec = (law.link (family_of tag)).codec;
@@ -185,7 +185,7 @@ module _ {P : Type 0} (peer : Ghosts P) where
     data_owes None = not_memory
 
     xstats_owes : (o : Option KindTag) →
-        RowOwes attribute 3 (link_row peer (role_under o (λ _. role.Xstats)))
+        RowOwes attribute 3 (link_row layer (role_under o (λ _. role.Xstats)))
     xstats_owes (Some tag) = record {
       low = lit< tt;
       codec = shape_is_codec Raw;
@@ -195,7 +195,7 @@ module _ {P : Type 0} (peer : Ghosts P) where
     xstats_owes None = not_memory
 
     port_data_owes : (o : Option PortTag) →
-        RowOwes attribute 5 (link_row peer (role_under o (λ tag. role.PortData tag)))
+        RowOwes attribute 5 (link_row layer (role_under o (λ tag. role.PortData tag)))
     port_data_owes (Some tag) = record {
       low = lit< tt;
       codec = (law.port (port_family_of tag)).codec;
@@ -204,7 +204,7 @@ module _ {P : Type 0} (peer : Ghosts P) where
     }
     port_data_owes None = not_memory
 
-    link_owes : (t : CurrentKinds) (n : ℕ) → RowOwes attribute n (link_rows peer t n)
+    link_owes : (t : CurrentKinds) (n : ℕ) → RowOwes attribute n (link_rows layer t n)
     unfolding role_of
     link_owes t zero = tt
     link_owes t (suc zero) = kind_owes
@@ -214,44 +214,44 @@ module _ {P : Type 0} (peer : Ghosts P) where
     link_owes t (suc (suc (suc (suc (suc zero))))) = port_data_owes t.port
     link_owes t (suc (suc (suc (suc (suc (suc n)))))) =
         subst (λ (r : Role).
-        RowOwes attribute (suc (suc (suc (suc (suc (suc n)))))) (link_row peer r))
+        RowOwes attribute (suc (suc (suc (suc (suc (suc n)))))) (link_row layer r))
         (sym (unknown_from_six t n)) tt
 
-    is_row : (t : CurrentKinds) (n : ℕ) (e : Entry (LinkInfoOf P)) → link_rows peer t n ≡ Is e →
+    is_row : (t : CurrentKinds) (n : ℕ) (e : Entry (LinkOf L)) → link_rows layer t n ≡ Is e →
         IsRow attribute n e
-    is_row t n e h = owed attribute (link_rows peer t) (link_owes t) n e h
+    is_row t n e h = owed attribute (link_rows layer t) (link_owes t) n e h
 
     keeps_other : (d : DefaultNla) →
         attribute (link_other d) ≡ record { kind = d.kind; value = d.value }
     keeps_other d = refl
 
-    pub link_alike_is : (t : CurrentKinds) (a b : Attribute) (x y : LinkInfoOf P) → IsAttribute a →
-        IsAttribute b → link_meaning peer t a ≡ Ok x → link_meaning peer t b ≡ Ok y →
-        (link_alike peer t a b ≡ true) ↔ (x ≡ y)
+    pub link_alike_is : (t : CurrentKinds) (a b : Attribute) (x y : LinkOf L) → IsAttribute a →
+        IsAttribute b → link_meaning layer t a ≡ Ok x → link_meaning layer t b ≡ Ok y →
+        (link_alike layer t a b ≡ true) ↔ (x ≡ y)
     link_alike_is t a b x y i j h k =
-        rows_alike_is family.LinkInfo link_other attribute (link_rows peer t) (is_row t) keeps_other
+        rows_alike_is family.LinkInfo link_other attribute (link_rows layer t) (is_row t) keeps_other
         a b x y i j h k
 
-    pub link_read_well : (t : CurrentKinds) (a : Attribute) (x : LinkInfoOf P) → IsAttribute a →
-        link_meaning peer t a ≡ Ok x → link_well peer t x
+    pub link_read_well : (t : CurrentKinds) (a : Attribute) (x : LinkOf L) → IsAttribute a →
+        link_meaning layer t a ≡ Ok x → link_well layer t x
     link_read_well t a x i h =
-        rows_read_well family.LinkInfo link_other attribute (link_rows peer t) (is_row t)
+        rows_read_well family.LinkInfo link_other attribute (link_rows layer t) (is_row t)
         keeps_other a x i h
 
-    pub link_well_reads : (t : CurrentKinds) (x : LinkInfoOf P) → link_well peer t x →
-        Fits (attribute x) → link_meaning peer t (attribute x) ≡ Ok x
+    pub link_well_reads : (t : CurrentKinds) (x : LinkOf L) → link_well layer t x →
+        Fits (attribute x) → link_meaning layer t (attribute x) ≡ Ok x
     link_well_reads t x w fits =
-        rows_well_reads family.LinkInfo link_other attribute (link_rows peer t) (is_row t)
+        rows_well_reads family.LinkInfo link_other attribute (link_rows layer t) (is_row t)
         keeps_other x w fits
 
-    pub link_well_attribute : (t : CurrentKinds) (x : LinkInfoOf P) → link_well peer t x →
+    pub link_well_attribute : (t : CurrentKinds) (x : LinkOf L) → link_well layer t x →
         Fits (attribute x) → IsAttribute (attribute x)
     link_well_attribute t x w fits =
-        rows_well_attribute family.LinkInfo link_other attribute (link_rows peer t) (is_row t)
+        rows_well_attribute family.LinkInfo link_other attribute (link_rows layer t) (is_row t)
         keeps_other x w fits
 
     -- what is written for an accepted attribute is the canonical attribute of what it means
-    name_written : (number : ℕ) (label : List ℕ → LinkInfoOf P) →
+    name_written : (number : ℕ) (label : List ℕ → LinkOf L) →
         ((name : List ℕ) →
         attribute (label name) ≡ record { kind = number; value = canon Name name }) →
         (a : Attribute) →
@@ -270,7 +270,7 @@ module _ {P : Type 0} (peer : Ghosts P) where
         go (Err c) h = absurd cc
 
     data_written : {D : Type 0} (number : ℕ) (payload : Payload D) (canon : D → List ℕ) →
-        IsLawful payload canon → (label : D → LinkInfoOf P) →
+        IsLawful payload canon → (label : D → LinkOf L) →
         ((d : D) → attribute (label d) ≡ record { kind = number; value = canon d }) →
         (a : Attribute) →
         IsOk (labelled family.LinkInfo (masked a.kind) label (inside (payload.means a.value))) →
@@ -291,33 +291,33 @@ module _ {P : Type 0} (peer : Ghosts P) where
         go (Err f) e h = absurd cc
 
     pub role_written : (r : Role) (a : Attribute) →
-        IsOk (row_meaning family.LinkInfo link_other (link_row peer r) a) →
-        attribute_for attribute (row_meaning family.LinkInfo link_other (link_row peer r) a)
-        ≡ written_attribute peer r a
+        IsOk (row_meaning family.LinkInfo link_other (link_row layer r) a) →
+        attribute_for attribute (row_meaning family.LinkInfo link_other (link_row layer r) a)
+        ≡ written_attribute layer r a
     role_written role.Kind a ok =
         name_written 1 (λ name. info.Kind (kind_of_name name)) kind_owes.keeps a ok
     role_written (role.Data tag) a ok =
-        data_written 2 (data_of peer (family_of tag)) (data_payload peer) (law.link (family_of tag))
+        data_written 2 (data_of layer (family_of tag)) (data_payload layer) (law.link (family_of tag))
         (λ d. info.Data d) (λ d. refl) a ok
     role_written role.Xstats a ok = refl
     role_written role.PortKind a ok =
         name_written 4 (λ name. info.PortKind (port_kind_of_name name)) port_kind_owes.keeps a ok
     role_written (role.PortData tag) a ok =
-        data_written 5 (port_data_of (port_family_of tag)) port_data_payload
+        data_written 5 (port_data_of layer (port_family_of tag)) (port_data_payload layer)
         (law.port (port_family_of tag)) (λ d. info.PortData d) (λ d. refl) a ok
     role_written role.Misplaced a ok = absurd cc
     role_written role.Unknown a ok = refl
 
     -- the error of no attribute is `(Frame, 0, Memory)`
-    pub link_no_memory : (t : CurrentKinds) (a : Attribute) → link_meaning peer t a
+    pub link_no_memory : (t : CurrentKinds) (a : Attribute) → link_meaning layer t a
         ≢ Err memory_error
     link_no_memory t a =
-        rows_no_memory family.LinkInfo link_other attribute (link_rows peer t) (link_owes t) a
+        rows_no_memory family.LinkInfo link_other attribute (link_rows layer t) (link_owes t) a
 
-    pub link_quarter : (t : CurrentKinds) (a : Attribute) → 4 * link_headers peer t a
+    pub link_quarter : (t : CurrentKinds) (a : Attribute) → 4 * link_headers layer t a
         ≤ length a.value
     link_quarter t a =
-        rows_quarter family.LinkInfo link_other attribute (link_rows peer t) (is_row t) keeps_other
+        rows_quarter family.LinkInfo link_other attribute (link_rows layer t) (is_row t) keeps_other
         a
 
   -- ---- the current kinds after an attribute are those after its value
@@ -328,15 +328,15 @@ module _ {P : Type 0} (peer : Ghosts P) where
   after_role t a r e = ap (λ (s : Role). or_stay t (kinds_after_role s t a)) e
 
   meaning_role : (t : CurrentKinds) (a : Attribute) (r : Role) → role_at t a ≡ r →
-      link_meaning peer t a ≡ row_meaning family.LinkInfo link_other (link_row peer r) a
+      link_meaning layer t a ≡ row_meaning family.LinkInfo link_other (link_row layer r) a
   unfolding meaning_in
   meaning_role t a r e =
-      ap (λ (s : Role). row_meaning family.LinkInfo link_other (link_row peer s) a) e
+      ap (λ (s : Role). row_meaning family.LinkInfo link_other (link_row layer s) a) e
 
-  good_same : (x y : LinkInfoOf P) → good x ≡ good y → x ≡ y
+  good_same : (x y : LinkOf L) → good x ≡ good y → x ≡ y
   good_same x y e = cc
 
-  pub name_read : (a : Attribute) (label : List ℕ → LinkInfoOf P) (x : LinkInfoOf P) →
+  pub name_read : (a : Attribute) (label : List ℕ → LinkOf L) (x : LinkOf L) →
       labelled family.LinkInfo (masked a.kind) label (own (means Name a.value)) ≡ Ok x →
       (name : List ℕ) × (name_meaning a ≡ Ok name) × (label name ≡ x)
   unfolding name_meaning
@@ -348,14 +348,14 @@ module _ {P : Type 0} (peer : Ghosts P) where
       go (Ok name) h = (name, refl, good_same (label name) x h)
       go (Err c) h = absurd cc
 
-  inside_read : {D : Type 0} (a : Attribute) (label : D → LinkInfoOf P) (r : Result D DecodeError)
-      (x : LinkInfoOf P) →
+  inside_read : {D : Type 0} (a : Attribute) (label : D → LinkOf L) (r : Result D DecodeError)
+      (x : LinkOf L) →
       labelled family.LinkInfo (masked a.kind) label (inside r) ≡ Ok x → (d : D) × (label d ≡ x)
   inside_read a label (Ok d) x e = (d, good_same (label d) x e)
   inside_read a label (Err f) x e = absurd cc
 
-  role_next : (r : Role) (t : CurrentKinds) (a : Attribute) (x : LinkInfoOf P) →
-      row_meaning family.LinkInfo link_other (link_row peer r) a ≡ Ok x →
+  role_next : (r : Role) (t : CurrentKinds) (a : Attribute) (x : LinkOf L) →
+      row_meaning family.LinkInfo link_other (link_row layer r) a ≡ Ok x →
       or_stay t (kinds_after_role r t a) ≡ kinds_after_value t x
   role_next role.Kind t a x e =
       let n = name_read a (λ name. info.Kind (kind_of_name name)) x e in
@@ -364,7 +364,7 @@ module _ {P : Type 0} (peer : Ghosts P) where
       n.1
       ∙ ap (λ (g : KindTag). let u : CurrentKinds = record { kind = Some g; port = t.port } in u)
       (sym (tag_of_kind-kind_of_name n.0))
-      ∙ ap (λ (y : LinkInfoOf P). kinds_after_value t y) n.2
+      ∙ ap (λ (y : LinkOf L). kinds_after_value t y) n.2
   role_next role.PortKind t a x e =
       let n = name_read a (λ name. info.PortKind (port_kind_of_name name)) x e in
       ap (λ (m : Result (List ℕ) DecodeError).
@@ -372,21 +372,21 @@ module _ {P : Type 0} (peer : Ghosts P) where
       (with_name m (λ name. record { kind = t.kind; port = Some (port_tag_of_name name) }))) n.1
       ∙ ap (λ (g : PortTag). let u : CurrentKinds = record { kind = t.kind; port = Some g } in u)
       (sym (tag_of_port_kind-port_kind_of_name n.0))
-      ∙ ap (λ (y : LinkInfoOf P). kinds_after_value t y) n.2
+      ∙ ap (λ (y : LinkOf L). kinds_after_value t y) n.2
   role_next (role.Data tag) t a x e =
-      let d = inside_read a (λ d. info.Data d) ((data_of peer (family_of tag)).means a.value) x e in
-      ap (λ (y : LinkInfoOf P). kinds_after_value t y) d.1
-  role_next role.Xstats t a x e = ap (λ (y : LinkInfoOf P). kinds_after_value t y) (good_same _ x e)
+      let d = inside_read a (λ d. info.Data d) ((data_of layer (family_of tag)).means a.value) x e in
+      ap (λ (y : LinkOf L). kinds_after_value t y) d.1
+  role_next role.Xstats t a x e = ap (λ (y : LinkOf L). kinds_after_value t y) (good_same _ x e)
   role_next (role.PortData tag) t a x e =
       let d =
-      inside_read a (λ d. info.PortData d) ((port_data_of (port_family_of tag)).means a.value) x
-      e in ap (λ (y : LinkInfoOf P). kinds_after_value t y) d.1
+      inside_read a (λ d. info.PortData d) ((port_data_of layer (port_family_of tag)).means a.value) x
+      e in ap (λ (y : LinkOf L). kinds_after_value t y) d.1
   role_next role.Misplaced t a x e = absurd cc
   role_next role.Unknown t a x e =
-      ap (λ (y : LinkInfoOf P). kinds_after_value t y) (good_same _ x e)
+      ap (λ (y : LinkOf L). kinds_after_value t y) (good_same _ x e)
 
-  pub link_next : (t : CurrentKinds) (a : Attribute) (x : LinkInfoOf P) →
-      link_meaning peer t a ≡ Ok x →
+  pub link_next : (t : CurrentKinds) (a : Attribute) (x : LinkOf L) →
+      link_meaning layer t a ≡ Ok x →
       next_kinds t a ≡ kinds_after_value t x
   link_next t a x e =
       after_role t a (role_at t a) refl
@@ -414,7 +414,7 @@ module _ {P : Type 0} (peer : Ghosts P) where
   same_role t a b e = ap (λ (n : ℕ). role_of t n) e
 
   pub role_alike_after : (r : Role) (t : CurrentKinds) (a b : Attribute) →
-      row_alike (link_row peer r) a b ≡ true →
+      row_alike (link_row layer r) a b ≡ true →
       (masked b.kind ≡ masked a.kind)
       × (or_stay t (kinds_after_role r t a) ≡ or_stay t (kinds_after_role r t b))
   role_alike_after role.Kind t a b h =
@@ -441,7 +441,7 @@ module _ {P : Type 0} (peer : Ghosts P) where
       )
   role_alike_after (role.Data tag) t a b h = (
     eqb-true _ _ (and_parts (eqb (masked b.kind) (masked a.kind))
-        ((data_of peer (family_of tag)).alike a.value b.value) h).0,
+        ((data_of layer (family_of tag)).alike a.value b.value) h).0,
     refl,
   )
   role_alike_after role.Xstats t a b h = (
@@ -450,7 +450,7 @@ module _ {P : Type 0} (peer : Ghosts P) where
   )
   role_alike_after (role.PortData tag) t a b h = (
     eqb-true _ _ (and_parts (eqb (masked b.kind) (masked a.kind))
-        ((port_data_of (port_family_of tag)).alike a.value b.value) h).0,
+        ((port_data_of layer (port_family_of tag)).alike a.value b.value) h).0,
     refl,
   )
   role_alike_after role.Misplaced t a b h = absurd cc
@@ -459,7 +459,7 @@ module _ {P : Type 0} (peer : Ghosts P) where
     refl,
   )
 
-  pub link_alike_after : (t : CurrentKinds) (a b : Attribute) → link_alike peer t a b ≡ true →
+  pub link_alike_after : (t : CurrentKinds) (a b : Attribute) → link_alike layer t a b ≡ true →
       next_kinds t a ≡ next_kinds t b
   unfolding alike_in
   link_alike_after t a b h =

@@ -16,7 +16,7 @@ use Rattle.linkinfo_table.specs.declared.last.PlacedNla.{PlacedNla}
 use Rattle.linkinfo_table.proofs.Lasts.{all_stand, same_at}
 use Rattle.linkinfo_data.specs.Data.{data_of, family_of}
 use Rattle.linkinfo_data.specs.Equal.{option_decides}
-use Rattle.linkinfo_table.specs.declared.peer.LinkPeer.{Ghosts}
+use Rattle.linkinfo_table.specs.Layers.{Families, Types}
 use Rattle.linkinfo_data.specs.Listing.{Listing}
 use Rattle.linkinfo_data.specs.PortData.{port_data_of, port_family_of}
 use Rattle.linkinfo_data.specs.Unmet.{counts, is_met, last_like, list_unmet, meets}
@@ -100,40 +100,40 @@ items_lasts s k =
     last_mapped (item_at s) (λ item. type_of_item item == k) None (attributes_of s)
     ∙ ap (last_of type_of_item k) (items_placed s)
 
-module _ {P : Type 0} (peer : Ghosts P) where
+module _ {L : Types} (layer : Families L) where
   role_met : (r : Role) (h w : PlacedNla) →
-      role_unmet peer r h w ≡ None ↔ RoleMeets peer r h.nla w.nla
+      role_unmet layer r h w ≡ None ↔ RoleMeets layer r h.nla w.nla
   role_met (role.Data tag) h w =
-      let payload = data_of peer (family_of tag) in
+      let payload = data_of layer (family_of tag) in
       payload_met payload.listing payload.alike h w
   role_met (role.PortData tag) h w =
-      let payload = port_data_of (port_family_of tag) in
+      let payload = port_data_of layer (port_family_of tag) in
       payload_met payload.listing payload.alike h w
-  role_met r h w = item_met (row_alike (link_row peer r)) h w
+  role_met r h w = item_met (row_alike (link_row layer r)) h w
 
   link_met : (have want : List ℕ) (h w : PlacedNla) →
-      link_unmet peer (Some (link_at have h)) (link_at want w) ≡ None
-      ↔ ItemMeets peer (item_at have h) (item_at want w)
+      link_unmet layer (Some (link_at have h)) (link_at want w) ≡ None
+      ↔ ItemMeets layer (item_at have h) (item_at want w)
   link_met have want h w =
       let wanted = item_at want w in
       let r = role_of_item wanted in
       let both =
-      if_both (same_kind r (item_at have h).named wanted.named) (role_unmet peer r h w) _ in
+      if_both (same_kind r (item_at have h).named wanted.named) (role_unmet layer r h w) _ in
       let inner = role_met r h w in (
         λ e. let m = both.0 e in record { kind = m.0; payload = inner.0 m.1 },
         λ m. both.1 (m.kind, inner.1 m.payload),
       )
 
   pub string_met : (have want : List ℕ) →
-      strings_unmet peer have want ≡ None ↔ StringMeets peer have want
+      strings_unmet layer have want ≡ None ↔ StringMeets layer have want
   string_met have want =
       both_ways
       (first_counted (counts (attributes_of want))
-      (λ p. link_unmet peer (option_map (link_at have) (last_like (attributes_of have) p))
+      (λ p. link_unmet layer (option_map (link_at have) (last_like (attributes_of have) p))
       (link_at want p))
       (attributes_of want))
-      (lasts_meet (item_at have) (item_at want) (ItemMeets peer)
-      (λ h w. link_unmet peer (option_map (link_at have) h) (link_at want w) ≡ None)
+      (lasts_meet (item_at have) (item_at want) (ItemMeets layer)
+      (λ h w. link_unmet layer (option_map (link_at have) h) (link_at want w) ≡ None)
       (λ w e. absurd cc) (link_met have want)
       (attributes_of have) (attributes_of want) (StandsIn want) (same_at want) (all_stand want)
       type_of_item (items_of have) (items_of want) (items_lasts have) (items_lasts want))
@@ -170,18 +170,18 @@ same_names role.Xstats m n e f = (option_decides bytes_eq-Decides m.kind n.kind)
 same_names (role.PortData tag) m n e f = (option_decides bytes_eq-Decides m.port n.port).1 f
 same_names _ m n e f = refl
 
-module _ {P : Type 0} (peer : Ghosts P) where
+module _ {L : Types} (layer : Families L) where
   -- equal payloads
-  pub role_equal : (r : Role) (h w : Attribute) → h.value ≡ w.value → RoleMeets peer r h w
+  pub role_equal : (r : Role) (h w : Attribute) → h.value ≡ w.value → RoleMeets layer r h w
   role_equal (role.Data tag) h w e =
-      let payload = data_of peer (family_of tag) in
+      let payload = data_of layer (family_of tag) in
       payload_itself payload.listing payload.alike h w e
   role_equal (role.PortData tag) h w e =
-      let payload = port_data_of (port_family_of tag) in
+      let payload = port_data_of layer (port_family_of tag) in
       payload_itself payload.listing payload.alike h w e
-  role_equal r h w e = meets_equal (row_alike (link_row peer r)) h w e
+  role_equal r h w e = meets_equal (row_alike (link_row layer r)) h w e
 
-  item_itself : (item : Item) → ItemMeets peer item item
+  item_itself : (item : Item) → ItemMeets layer item item
   item_itself item =
       let r = role_of_item item in
       record {
@@ -189,10 +189,10 @@ module _ {P : Type 0} (peer : Ghosts P) where
         payload = role_equal r item.nla item.nla refl;
       }
 
-  pub string_itself : (s : List ℕ) → strings_unmet peer s s ≡ None
+  pub string_itself : (s : List ℕ) → strings_unmet layer s s ≡ None
   string_itself s =
-      (string_met peer s s).1
-      (meets_itself type_of_item (ItemMeets peer) item_itself (items_of s))
+      (string_met layer s s).1
+      (meets_itself type_of_item (ItemMeets layer) item_itself (items_of s))
 
 pub data_itself : (name : Family) (alike : Attribute → Attribute → Bool) (s : List ℕ) →
     list_unmet name alike (attributes_of s) (attributes_of s) ≡ None
@@ -217,19 +217,19 @@ equal_data (Some listing) alike h w e =
     ap (λ (o : Option Unmet). option_map (inner_unmet w h) o) same
 
 -- the result for equal strings, the first of which is accepted
-module _ {P : Type 0} (peer : Ghosts P) where
+module _ {L : Types} (layer : Families L) where
   itself_answer : {X : Type 0} (r : Result X DecodeError) (o : Option Unmet) → Ok tt ≡ verdict r →
       o ≡ None →
       Ok None ≡ unmet_answer r r o
   itself_answer (Ok x) o e none = rw none refl
   itself_answer (Err d) o e none = absurd cc
 
-  pub equal_answer : (have want : List ℕ) → have ≡ want → Ok tt ≡ verdict (reading peer have) →
-      Ok None ≡ unmet_answer (reading peer have) (reading peer want)
-      (strings_unmet peer have want)
+  pub equal_answer : (have want : List ℕ) → have ≡ want → Ok tt ≡ verdict (reading layer have) →
+      Ok None ≡ unmet_answer (reading layer have) (reading layer want)
+      (strings_unmet layer have want)
   equal_answer have want same accepted =
       subst (λ (s : List ℕ). Ok None
-      ≡ unmet_answer (reading peer have) (reading peer s) (strings_unmet peer have s))
+      ≡ unmet_answer (reading layer have) (reading layer s) (strings_unmet layer have s))
       same
-      (itself_answer (reading peer have) (strings_unmet peer have have) accepted
-      (string_itself peer have))
+      (itself_answer (reading layer have) (strings_unmet layer have have) accepted
+      (string_itself layer have))

@@ -14,9 +14,8 @@ use Rattle.nla_frame.specs.declared.error.DecodeError.{DecodeError}
 use Rattle.linkinfo_table.specs.Last.{attributes_of, placed_from}
 use Rattle.linkinfo_table.specs.Lists.{◌>>=◌}
 use Rattle.linkinfo_table.specs.Rows.{alike_in, row_alike}
-use Rattle.linkinfo_peers.specs.PeerMembers.{netkit_members}
 use Rattle.linkinfo_data.specs.Data.{data_of, family_of}
-use Rattle.linkinfo_table.specs.declared.peer.LinkPeer.{Ghosts}
+use Rattle.linkinfo_table.specs.Layers.{Families, IsLayer, Types}
 use Rattle.linkinfo_data.specs.Lawful.{AreLawful}
 use Rattle.linkinfo_data.specs.Listing.{Listing}
 use Rattle.linkinfo_data.specs.PortData.{port_data_of, port_family_of}
@@ -27,14 +26,14 @@ use Rattle.linkinfo.specs.Met.{nlas_of, role_of_item, type_of, type_of_item}
 use Rattle.linkinfo.specs.Roles.{role_of}
 use Rattle.linkinfo.specs.Strings.{alike_from, alike_strings, next_kinds, reading, values_from}
 use Rattle.linkinfo.specs.Unmet.{Named, kinds_named, names_after, no_names, strings_unmet}
-use Rattle.linkinfo.specs.declared.link_info.LinkInfoOf.{LinkInfoOf}
+use Rattle.linkinfo.specs.Layered.{LinkOf}
 use Rattle.linkinfo.specs.declared.role.CurrentKinds.{CurrentKinds}
 use Rattle.linkinfo.specs.declared.role.Role.TheVariants as role
 use Rattle.linkinfo.specs.declared.role.Role.{Role}
 use Rattle.linkinfo.proofs.Items.{role_alike_after}
 use Rattle.linkinfo.proofs.Meeting.{or_second, same_names, string_met}
 use Rattle.linkinfo.proofs.MetLasts.{pairs_meet, same_named}
-use Rattle.linkinfo.proofs.PairedData.{ArePair, HaveOneType, data_paired, port_paired}
+use Rattle.linkinfo.proofs.PairedData.{ArePair, data_paired, port_paired}
 use Rattle.linkinfo.proofs.Unmets.{under_next}
 use Rattle.linkinfo.proofs.Whole.{strings_alike}
 
@@ -56,19 +55,19 @@ if_same true false p q o e f = absurd cc
 if_same false true p q o e f = absurd cc
 if_same false false p q o e f = refl
 
-module _ {P : Type 0} (peer : Ghosts P) (netkit : HaveOneType (netkit_members peer).alike) where
-  role_alike : (r : Role) (a b : Attribute) → row_alike (link_row peer r) a b ≡ true →
-      RoleMeets peer r a b
+module _ {L : Types} (layer : Families L) (is : IsLayer layer) where
+  role_alike : (r : Role) (a b : Attribute) → row_alike (link_row layer r) a b ≡ true →
+      RoleMeets layer r a b
   role_alike (role.Data tag) a b e =
-      let payload = data_of peer (family_of tag) in
-      payload_alike payload.listing payload.alike a b (data_paired peer netkit (family_of tag))
+      let payload = data_of layer (family_of tag) in
+      payload_alike payload.listing payload.alike a b (data_paired layer is (family_of tag))
       (and_parts (masked b.kind == masked a.kind) (payload.alike a.value b.value) e).1
   role_alike (role.PortData tag) a b e =
-      let payload = port_data_of (port_family_of tag) in
-      payload_alike payload.listing payload.alike a b (port_paired (port_family_of tag))
+      let payload = port_data_of layer (port_family_of tag) in
+      payload_alike payload.listing payload.alike a b (port_paired layer is (port_family_of tag))
       (and_parts (masked b.kind == masked a.kind) (payload.alike a.value b.value) e).1
   role_alike r a b e =
-      or_second (bytes_eq a.value b.value) (row_alike (link_row peer r) a b) e
+      or_second (bytes_eq a.value b.value) (row_alike (link_row layer r) a b) e
 
   -- ---- the names after equivalent attributes
 
@@ -89,11 +88,11 @@ module _ {P : Type 0} (peer : Ghosts P) (netkit : HaveOneType (netkit_members pe
   port_role t n e = let is = eqb-true n 4 e in rw is refl
 
   names_alike : (t : CurrentKinds) (names : Named) (a b : Attribute) →
-      row_alike (link_row peer (role_of t (type_of a))) a b ≡ true →
+      row_alike (link_row layer (role_of t (type_of a))) a b ≡ true →
       names_after names a ≡ names_after names b
   names_alike t names a b e =
       let typed : type_of a ≡ type_of b =
-      sym (role_alike_after peer (role_of t (type_of a)) t a b e).0 in
+      sym (role_alike_after layer (role_of t (type_of a)) t a b e).0 in
       let is = λ (n : ℕ). ap (λ (k : ℕ). k == n) typed in
       let first = stripped a.value in
       let second = stripped b.value in
@@ -111,9 +110,9 @@ module _ {P : Type 0} (peer : Ghosts P) (netkit : HaveOneType (netkit_members pe
   record AreAlike (x y : Item) : Type 0 where
     typed : type_of_item x ≡ type_of_item y
     named : x.named ≡ y.named
-    same : row_alike (link_row peer (role_of_item x)) x.nla y.nla ≡ true
+    same : row_alike (link_row layer (role_of_item x)) x.nla y.nla ≡ true
 
-  alike_meet : (x y : Item) → AreAlike x y → ItemMeets peer x y
+  alike_meet : (x y : Item) → AreAlike x y → ItemMeets layer x y
   alike_meet x y pair =
       let roles : role_of_item x ≡ role_of_item y =
       ap (λ (names : Named). role_of (kinds_named names) (type_of_item x)) pair.named
@@ -123,7 +122,7 @@ module _ {P : Type 0} (peer : Ghosts P) (netkit : HaveOneType (netkit_members pe
             same_names (role_of_item y) x.named y.named (ap (λ (n : Named). n.kind) pair.named)
             (ap (λ (n : Named). n.port) pair.named);
         payload =
-            subst (λ (r : Role). RoleMeets peer r x.nla y.nla) roles
+            subst (λ (r : Role). RoleMeets layer r x.nla y.nla) roles
             (role_alike (role_of_item x) x.nla y.nla pair.same);
       }
 
@@ -137,14 +136,14 @@ module _ {P : Type 0} (peer : Ghosts P) (netkit : HaveOneType (netkit_members pe
   both_ok (Ok x) (Err e) ok = absurd cc
   both_ok (Err e) v ok = absurd cc
 
-  alike_first : (t : CurrentKinds) (a b : Attribute) → link_alike peer t a b ≡ true →
-      row_alike (link_row peer (role_of t (type_of a))) a b ≡ true
+  alike_first : (t : CurrentKinds) (a b : Attribute) → link_alike layer t a b ≡ true →
+      row_alike (link_row layer (role_of t (type_of a))) a b ≡ true
   unfolding alike_in
   alike_first t a b e = e
 
   pairs_from : (ps qs : List (Result Attribute ℕ)) (names : Named) (m n : ℕ) →
-      IsOk (values_from peer (kinds_named names) ps) →
-      alike_from peer (kinds_named names) ps qs ≡ true →
+      IsOk (values_from layer (kinds_named names) ps) →
+      alike_from layer (kinds_named names) ps qs ≡ true →
       AllZip AreAlike (items_from names m ps) (items_from names n qs)
   pairs_from [] [] names m n ok e = tt
   pairs_from [] (y ∷ ys) names m n ok e = absurd cc
@@ -152,18 +151,18 @@ module _ {P : Type 0} (peer : Ghosts P) (netkit : HaveOneType (netkit_members pe
   pairs_from ((Err k) ∷ xs) [] names m n ok e = absurd cc
   pairs_from ((Ok a) ∷ xs) ((Ok b) ∷ ys) names m n ok e =
       let t = kinds_named names in
-      let h = and_parts (link_alike peer t a b)
-      (alike_from peer (next_kinds t a) xs ys) e in
+      let h = and_parts (link_alike layer t a b)
+      (alike_from layer (next_kinds t a) xs ys) e in
       let first = alike_first t a b h.0 in
       let oks =
-      both_ok (link_meaning peer t a) (values_from peer (next_kinds t a) xs) ok in
+      both_ok (link_meaning layer t a) (values_from layer (next_kinds t a) xs) ok in
       let next = names_after names a in
       let more =
       pairs_from xs ys next (m + aligned (4 + length a.value)) (n + aligned (4 + length b.value))
-      (under_next peer (λ u. IsOk (values_from peer u xs)) names a oks.0 oks.1)
-      (under_next peer (λ u. alike_from peer u xs ys ≡ true) names a oks.0 h.1) in
+      (under_next layer (λ u. IsOk (values_from layer u xs)) names a oks.0 oks.1)
+      (under_next layer (λ u. alike_from layer u xs ys ≡ true) names a oks.0 h.1) in
       let typed : type_of a ≡ type_of b =
-      sym (role_alike_after peer (role_of t (type_of a)) t a b first).0 in (
+      sym (role_alike_after layer (role_of t (type_of a)) t a b first).0 in (
         record { typed = typed; named = refl; same = first },
         subst
             (λ (other : Named).
@@ -174,26 +173,26 @@ module _ {P : Type 0} (peer : Ghosts P) (netkit : HaveOneType (netkit_members pe
   pairs_from ((Ok a) ∷ xs) ((Err k) ∷ ys) names m n ok e = absurd cc
   pairs_from ((Err k) ∷ xs) (y ∷ ys) names m n ok e = absurd cc
 
-  pub alike_met : (a b : List ℕ) → IsOk (reading peer a) → alike_strings peer a b ≡ true →
-      strings_unmet peer a b ≡ None
+  pub alike_met : (a b : List ℕ) → IsOk (reading layer a) → alike_strings layer a b ≡ true →
+      strings_unmet layer a b ≡ None
   unfolding reading alike_strings attributes_of
   alike_met a b ok e =
-      (string_met peer a b).1
-      (pairs_meet type_of_item AreAlike (ItemMeets peer) (λ x y pair. pair.typed) alike_meet
+      (string_met layer a b).1
+      (pairs_meet type_of_item AreAlike (ItemMeets layer) (λ x y pair. pair.typed) alike_meet
       (items_of a) (items_of b) (pairs_from (nla_items a) (nla_items b) no_names 0 0 ok e))
 
 -- equivalence has no order
-module _ {P : Type 0} (peer : Ghosts P) (law : AreLawful peer) where
-  pub alike_turned : (a b : List ℕ) → IsBytes a → IsBytes b → IsOk (reading peer a) →
-      IsOk (reading peer b) → alike_strings peer a b ≡ true →
-      alike_strings peer b a ≡ true
+module _ {L : Types} (layer : Families L) (law : AreLawful layer) where
+  pub alike_turned : (a b : List ℕ) → IsBytes a → IsBytes b → IsOk (reading layer a) →
+      IsOk (reading layer b) → alike_strings layer a b ≡ true →
+      alike_strings layer b a ≡ true
   alike_turned a b a_bytes b_bytes a_ok b_ok e =
-      go (reading peer a) (reading peer b) refl refl a_ok b_ok
+      go (reading layer a) (reading layer b) refl refl a_ok b_ok
     where
-      go : (m n : Result (List (LinkInfoOf P)) DecodeError) → reading peer a ≡ m →
-          reading peer b ≡ n → IsOk m → IsOk n → alike_strings peer b a ≡ true
+      go : (m n : Result (List (LinkOf L)) DecodeError) → reading layer a ≡ m →
+          reading layer b ≡ n → IsOk m → IsOk n → alike_strings layer b a ≡ true
       go (Ok xs) (Ok ys) a_is b_is i j =
-          (strings_alike peer law b a ys xs b_bytes a_bytes b_is a_is).1
-          (sym ((strings_alike peer law a b xs ys a_bytes b_bytes a_is b_is).0 e))
+          (strings_alike layer law b a ys xs b_bytes a_bytes b_is a_is).1
+          (sym ((strings_alike layer law a b xs ys a_bytes b_bytes a_is b_is).0 e))
       go (Err d) n a_is b_is i j = absurd cc
       go (Ok xs) (Err d) a_is b_is i j = absurd cc

@@ -6,7 +6,7 @@ use Rattle.std.proofs.Common.{ap, inl, inr, subst, sym, ◌∙◌}
 use Rattle.nla_frame.specs.Attribute.{Attribute}
 use Rattle.linkinfo_table.proofs.Lasts.{last_holds}
 use Rattle.linkinfo_data.specs.Data.{data_of, family_of}
-use Rattle.linkinfo_table.specs.declared.peer.LinkPeer.{Ghosts}
+use Rattle.linkinfo_table.specs.Layers.{Families, Types}
 use Rattle.linkinfo_data.specs.Listing.{Listing}
 use Rattle.linkinfo_data.specs.PortData.{port_data_of, port_family_of}
 use Rattle.linkinfo.specs.Met.{DifferInside, HasGained, HaveSameLasts, IsMet, Item, ItemMeets}
@@ -27,14 +27,14 @@ list_stays None alike h m w list same met = absurd cc
 list_stays (Some listing) alike h m w list same met =
     lists_stay listing.alike h.value m.value w.value same met
 
-module _ {P : Type 0} (peer : Ghosts P) where
-  payload_stays : (r : Role) (h m w : Attribute) → IsTrue (is_list peer r) →
-      HaveSameLasts w.value h.value m.value → RoleMeets peer r h w → RoleMeets peer r m w
+module _ {L : Types} (layer : Families L) where
+  payload_stays : (r : Role) (h m w : Attribute) → IsTrue (is_list layer r) →
+      HaveSameLasts w.value h.value m.value → RoleMeets layer r h w → RoleMeets layer r m w
   payload_stays (role.Data tag) h m w list same met =
-      let payload = data_of peer (family_of tag) in
+      let payload = data_of layer (family_of tag) in
       list_stays payload.listing payload.alike h m w list same met
   payload_stays (role.PortData tag) h m w list same met =
-      let payload = port_data_of (port_family_of tag) in
+      let payload = port_data_of layer (port_family_of tag) in
       list_stays payload.listing payload.alike h m w list same met
   payload_stays role.Kind h m w list same met = absurd cc
   payload_stays role.Xstats h m w list same met = absurd cc
@@ -44,13 +44,13 @@ module _ {P : Type 0} (peer : Ghosts P) where
 
   -- an attribute of the list
   item_stays : (h m w : Item) → h.named ≡ m.named → type_of_item w ≡ type_of_item h →
-      (h.nla ≡ m.nla) ⊎ StaysFor peer h m w → ItemMeets peer h w → ItemMeets peer m w
+      (h.nla ≡ m.nla) ⊎ StaysFor layer h m w → ItemMeets layer h w → ItemMeets layer m w
   item_stays h m w named typed payload met = record {
     kind = subst (λ (n : Named). IsTrue (same_kind (role_of_item w) n w.named)) named met.kind;
     payload =
         elim payload [
           | inl same ↦
-              subst (λ (a : Attribute). RoleMeets peer (role_of_item w) a w.nla) same
+              subst (λ (a : Attribute). RoleMeets layer (role_of_item w) a w.nla) same
               met.payload
           | inr stays ↦
               let both = stays typed in
@@ -58,20 +58,20 @@ module _ {P : Type 0} (peer : Ghosts P) where
         ];
   }
 
-  module _ (have more want : List ℕ) (gained : DifferInside peer want have more) where
+  module _ (have more want : List ℕ) (gained : DifferInside layer want have more) where
     abbrev Gained : Item → Item → Type 0
-    Gained h m = HasGained peer (items_of want) h m
+    Gained h m = HasGained layer (items_of want) h m
 
     option_stays : (k : ℕ) (h m w : Option Item) → AreBoth Gained h m →
-        ((x y : Item) → AllByRecursion (StaysFor peer x y) (items_of want) →
-        IfSome w (StaysFor peer x y)) →
+        ((x y : Item) → AllByRecursion (StaysFor layer x y) (items_of want) →
+        IfSome w (StaysFor layer x y)) →
         IfSome h (λ x. type_of_item x ≡ k) → IfSome w (λ x. type_of_item x ≡ k) →
-        IsMet (ItemMeets peer) h w → IsMet (ItemMeets peer) m w
+        IsMet (ItemMeets layer) h w → IsMet (ItemMeets layer) m w
     option_stays k h m None both stays th tw met = tt
     option_stays k None m (Some w) both stays th tw met = absurd met
     option_stays k (Some h) None (Some w) both stays th tw met = absurd both
     option_stays k (Some h) (Some m) (Some w) both stays th tw met =
-        let payload : (h.nla ≡ m.nla) ⊎ StaysFor peer h m w =
+        let payload : (h.nla ≡ m.nla) ⊎ StaysFor layer h m w =
         elim both.payload [
           | inl same ↦ inl same
           | inr all ↦ inr (stays h m all)
@@ -79,16 +79,16 @@ module _ {P : Type 0} (peer : Ghosts P) where
         item_stays h m w both.named (tw ∙ sym th) payload met
 
     pub inside_stays :
-        strings_unmet peer have want ≡ None → strings_unmet peer more want ≡ None
+        strings_unmet layer have want ≡ None → strings_unmet layer more want ≡ None
     inside_stays e =
-        (string_met peer more want).1 (λ k.
+        (string_met layer more want).1 (λ k.
         option_stays k (last_of type_of_item k (items_of have))
         (last_of type_of_item k (items_of more)) (last_of type_of_item k (items_of want))
         (last_pair Gained (λ x. type_of_item x == k)
         (λ x y both. ap (λ (n : ℕ). n == k) both.type) None None tt (items_of have) (items_of more)
         gained)
         (λ x y all.
-        last_holds (StaysFor peer x y) (λ item. type_of_item item == k) None (items_of want) all
+        last_holds (StaysFor layer x y) (λ item. type_of_item item == k) None (items_of want) all
         tt)
         (last_typed type_of_item k (items_of have)) (last_typed type_of_item k (items_of want))
-        ((string_met peer have want).0 e k))
+        ((string_met layer have want).0 e k))

@@ -13,13 +13,13 @@ use Rattle.linkinfo_numbers.specs.PortKind.{port_tag_of_name}
 use Rattle.linkinfo_table.specs.Last.{attributes_of}
 use Rattle.linkinfo_table.specs.declared.last.PlacedNla.{PlacedNla}
 use Rattle.linkinfo_data.specs.Equal.{option_decides}
-use Rattle.linkinfo_table.specs.declared.peer.LinkPeer.{Ghosts}
+use Rattle.linkinfo_table.specs.Layers.{Families, Types}
 use Rattle.linkinfo.specs.Met.{Item, items_of, role_of_item}
 use Rattle.linkinfo.specs.Roles.{role_of, role_under}
 use Rattle.linkinfo.specs.Strings.{reading}
 use Rattle.linkinfo.specs.Unmet.{Named, kinds_named, link_at, same_kind}
 use Rattle.linkinfo.specs.UnmetSteps.{IsAcceptedLink}
-use Rattle.linkinfo.specs.declared.link_info.LinkInfoOf.{LinkInfoOf}
+use Rattle.linkinfo.specs.Layered.{LinkOf}
 use Rattle.linkinfo.specs.declared.role.Role.TheVariants as role
 use Rattle.linkinfo.specs.declared.role.Role.{Role}
 use Rattle.linkinfo.proofs.Items.{unknown_from_six}
@@ -104,29 +104,29 @@ agree_at now m n (suc (suc (suc (suc (suc (suc k)))))) kind port =
 
 -- ---- the attributes of an accepted list are placed
 
-module _ {P : Type 0} (peer : Ghosts P) where
-  not_misplaced : (r : Role) (a : Attribute) → IsOk (meant peer r a) → r ≢ role.Misplaced
-  not_misplaced r a ok e = none (subst (λ (q : Role). IsOk (meant peer q a)) e ok)
+module _ {L : Types} (layer : Families L) where
+  not_misplaced : (r : Role) (a : Attribute) → IsOk (meant layer r a) → r ≢ role.Misplaced
+  not_misplaced r a ok e = none (subst (λ (q : Role). IsOk (meant layer q a)) e ok)
     where
-      none : IsOk (meant peer role.Misplaced a) → ⊥
+      none : IsOk (meant layer role.Misplaced a) → ⊥
       none h = absurd cc
 
   placed_mapped : (s : List ℕ) (list : List PlacedNla) →
-      AllByRecursion (λ p. IsAcceptedLink peer (link_at s p)) list →
+      AllByRecursion (λ p. IsAcceptedLink layer (link_at s p)) list →
       AllByRecursion (λ item. role_of_item item ≢ role.Misplaced) (map (item_at s) list)
   placed_mapped s [] all = tt
   placed_mapped s (p ∷ more) all =
       let item = item_at s p in (
         not_misplaced (role_of_item item) item.nla
-            (subst (λ (m : Result (LinkInfoOf P) DecodeError). IsOk m)
-            (meaning_is peer (kinds_named item.named) item.nla (role_of_item item) refl)
+            (subst (λ (m : Result (LinkOf L) DecodeError). IsOk m)
+            (meaning_is layer (kinds_named item.named) item.nla (role_of_item item) refl)
             all.0.means),
         placed_mapped s more all.1,
       )
 
-  pub none_misplaced : (s : List ℕ) → length s < 2 ^ 64 → IsOk (reading peer s) →
+  pub none_misplaced : (s : List ℕ) → length s < 2 ^ 64 → IsOk (reading layer s) →
       AllByRecursion (λ item. role_of_item item ≢ role.Misplaced) (items_of s)
   none_misplaced s small ok =
       subst
       (λ (items : List Item). AllByRecursion (λ item. role_of_item item ≢ role.Misplaced) items)
-      (items_placed s) (placed_mapped s (attributes_of s) (links_accepted peer s small ok))
+      (items_placed s) (placed_mapped s (attributes_of s) (links_accepted layer s small ok))

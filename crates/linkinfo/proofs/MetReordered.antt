@@ -18,7 +18,7 @@ use Rattle.nla_frame.specs.declared.error.Family.{Family}
 use Rattle.linkinfo_table.specs.Last.{attributes_of}
 use Rattle.linkinfo_table.proofs.Lasts.{last_holds}
 use Rattle.linkinfo_data.specs.Data.{data_of, family_of}
-use Rattle.linkinfo_table.specs.declared.peer.LinkPeer.{Ghosts}
+use Rattle.linkinfo_table.specs.Layers.{Families, Types}
 use Rattle.linkinfo_data.specs.Listing.{Listing}
 use Rattle.linkinfo_data.specs.PortData.{port_data_of, port_family_of}
 use Rattle.linkinfo_data.specs.Unmet.{list_unmet, meets}
@@ -277,19 +277,19 @@ settled names known k kind port placed =
     one_role known names k placed (agree_same r known names (agree_turned r names known agree)) in
     (sym is, subst (λ (q : Role). Agree q names known) (sym is) agree)
 
-module _ {P : Type 0} (peer : Ghosts P) where
+module _ {L : Types} (layer : Families L) where
   -- ---- the attributes of an accepted list
 
   abbrev Settled : List ℕ → Item → Type 0
   Settled s item = IsSettled item.named (names_in_list (nlas_of s)) (type_of_item item)
 
-  all_settled : (s : List ℕ) → length s < 2 ^ 64 → IsOk (reading peer s) →
+  all_settled : (s : List ℕ) → length s < 2 ^ 64 → IsOk (reading layer s) →
       HasNoTypeTwice (nlas_of s) → AllByRecursion (Settled s) (items_of s)
   all_settled s small ok distinct =
       zip (items_of s)
       (items_named (nlas_of s) (nlas_of s) no_names (record { kind = inl refl; port = inl refl })
       (each_last (nlas_of s) distinct None))
-      (none_misplaced peer s small ok)
+      (none_misplaced layer s small ok)
     where
       zip : (items : List Item) → AllByRecursion (λ item. AreNamesOf (nlas_of s) item.named) items →
           AllByRecursion (λ item. role_of_item item ≢ role.Misplaced) items →
@@ -304,34 +304,34 @@ module _ {P : Type 0} (peer : Ghosts P) where
   -- ---- attributes like one another meet
 
   like_meets : (r : Role) (a b : Attribute) →
-      (a.value ≡ b.value) ⊎ (IsTrue (is_list peer r) × IsReorderedData a.value b.value) →
-      MeetBoth (RoleMeets peer r) a b
-  like_meets r a b (inl e) = (role_equal peer r a b e, role_equal peer r b a (sym e))
+      (a.value ≡ b.value) ⊎ (IsTrue (is_list layer r) × IsReorderedData a.value b.value) →
+      MeetBoth (RoleMeets layer r) a b
+  like_meets r a b (inl e) = (role_equal layer r a b e, role_equal layer r b a (sym e))
   like_meets (role.Data tag) a b (inr h) =
-      let payload = data_of peer (family_of tag) in
+      let payload = data_of layer (family_of tag) in
       payload_reordered payload.listing payload.alike a b h.0 h.1
   like_meets (role.PortData tag) a b (inr h) =
-      let payload = port_data_of (port_family_of tag) in
+      let payload = port_data_of layer (port_family_of tag) in
       payload_reordered payload.listing payload.alike a b h.0 h.1
   like_meets r a b (inr h) = absurd (let e = h.0 in cc)
 
   item_meets : (r : Role) (known : Named) (x y : Item) → role_of_item y ≡ r →
       Agree r x.named known →
-      Agree r y.named known → RoleMeets peer r x.nla y.nla → ItemMeets peer x y
+      Agree r y.named known → RoleMeets layer r x.nla y.nla → ItemMeets layer x y
   item_meets r known x y is had wanted meets =
       record {
         kind =
             subst (λ (q : Role). IsTrue (same_kind q x.named y.named)) (sym is)
             (agree_same r x.named y.named
             (agree_then r x.named known y.named had (agree_turned r y.named known wanted)));
-        payload = subst (λ (q : Role). RoleMeets peer q x.nla y.nla) (sym is) meets;
+        payload = subst (λ (q : Role). RoleMeets layer q x.nla y.nla) (sym is) meets;
       }
 
   items_meet : (list other : List Attribute) (x y : Item) →
       names_in_list other ≡ names_in_list list → type_of_item y ≡ type_of_item x →
       IsSettled x.named (names_in_list list) (type_of_item x) →
       IsSettled y.named (names_in_list other) (type_of_item y) →
-      IsLikeIn peer list x.nla y.nla → MeetBoth (ItemMeets peer) x y
+      IsLikeIn layer list x.nla y.nla → MeetBoth (ItemMeets layer) x y
   items_meet list other x y named typed first second like =
       let known = names_in_list list in
       let r = role_of (kinds_named known) (type_of_item x) in
@@ -350,36 +350,36 @@ module _ {P : Type 0} (peer : Ghosts P) where
   -- ---- lists in another order
 
   name_same : (list other : List Attribute) (k : ℕ) →
-      is_list peer (role_of (kinds_named (names_in_list list)) k) ≡ false →
-      IsReordering (IsLikeIn peer list) list other →
+      is_list layer (role_of (kinds_named (names_in_list list)) k) ≡ false →
+      IsReordering (IsLikeIn layer list) list other →
       name_in_list other k ≡ name_in_list list k
   name_same list other k plain order =
       go (last_of type_of k list) (last_of type_of k other) (last_typed type_of k list)
-      (are_both (IsLikeIn peer list) list other order k)
+      (are_both (IsLikeIn layer list) list other order k)
     where
       go : (o p : Option Attribute) → IfSome o (λ a. type_of a ≡ k) →
-          AreBoth (IsLikeIn peer list) o p →
+          AreBoth (IsLikeIn layer list) o p →
           option_map (λ a. stripped a.value) p ≡ option_map (λ a. stripped a.value) o
       go None None typed both = refl
       go (Some a) (Some b) typed (inl e) = ap (λ (v : List ℕ). Some (stripped v)) (sym e)
       go (Some a) (Some b) typed (inr h) =
           let listed =
           subst
-          (λ (n : ℕ). IsTrue (is_list peer (role_of (kinds_named (names_in_list list)) n)))
+          (λ (n : ℕ). IsTrue (is_list layer (role_of (kinds_named (names_in_list list)) n)))
           typed h.0 in
           absurd (let e : true ≡ false = sym listed ∙ plain in cc)
       go None (Some b) typed both = absurd both
       go (Some a) None typed both = absurd both
 
-  plain_one : (t : CurrentKinds) → is_list peer (role_of t 1) ≡ false
+  plain_one : (t : CurrentKinds) → is_list layer (role_of t 1) ≡ false
   unfolding role_of
   plain_one t = refl
 
-  plain_four : (t : CurrentKinds) → is_list peer (role_of t 4) ≡ false
+  plain_four : (t : CurrentKinds) → is_list layer (role_of t 4) ≡ false
   unfolding role_of
   plain_four t = refl
 
-  names_same : (list other : List Attribute) → IsReordering (IsLikeIn peer list) list other →
+  names_same : (list other : List Attribute) → IsReordering (IsLikeIn layer list) list other →
       names_in_list other ≡ names_in_list list
   names_same list other order =
       let t = kinds_named (names_in_list list) in
@@ -400,10 +400,10 @@ module _ {P : Type 0} (peer : Ghosts P) where
       ∙ ap (λ (list : List Attribute). last_of type_of k list) (items_nlas no_names (nlas_of s))
 
   module _ (s t : List ℕ) (s_small : length s < 2 ^ 64) (t_small : length t < 2 ^ 64)
-      (s_ok : IsOk (reading peer s)) (t_ok : IsOk (reading peer t))
-      (order : IsReorderedList peer s t) where
+      (s_ok : IsOk (reading layer s)) (t_ok : IsOk (reading layer t))
+      (order : IsReorderedList layer s t) where
     last_both : (k : ℕ) →
-        AreBoth (MeetBoth (ItemMeets peer)) (last_of type_of_item k (items_of s))
+        AreBoth (MeetBoth (ItemMeets layer)) (last_of type_of_item k (items_of s))
         (last_of type_of_item k (items_of t))
     last_both k =
         let o = last_of type_of_item k (items_of s) in
@@ -413,13 +413,13 @@ module _ {P : Type 0} (peer : Ghosts P) where
         (last_holds (Settled s) test None (items_of s) (all_settled s s_small s_ok order.first) tt)
         (last_holds (Settled t) test None (items_of t) (all_settled t t_small t_ok order.second) tt)
         (rw (last_nla s k, last_nla t k)
-        (are_both (IsLikeIn peer (nlas_of s)) (nlas_of s) (nlas_of t) order k))
+        (are_both (IsLikeIn layer (nlas_of s)) (nlas_of s) (nlas_of t) order k))
       where
         go : (o p : Option Item) → IfSome o (λ x. type_of_item x ≡ k) →
             IfSome p (λ y. type_of_item y ≡ k) → IfSome o (Settled s) → IfSome p (Settled t) →
-            AreBoth (IsLikeIn peer (nlas_of s)) (option_map (λ item. item.nla) o)
+            AreBoth (IsLikeIn layer (nlas_of s)) (option_map (λ item. item.nla) o)
             (option_map (λ item. item.nla) p) →
-            AreBoth (MeetBoth (ItemMeets peer)) o p
+            AreBoth (MeetBoth (ItemMeets layer)) o p
         go None None first second had wanted like = tt
         go (Some x) (Some y) first second had wanted like =
             items_meet (nlas_of s) (nlas_of t) x y (names_same (nlas_of s) (nlas_of t) order)
@@ -427,10 +427,10 @@ module _ {P : Type 0} (peer : Ghosts P) where
         go None (Some y) first second had wanted like = absurd like
         go (Some x) None first second had wanted like = absurd like
 
-    pub reordered_met : (strings_unmet peer s t ≡ None) × (strings_unmet peer t s ≡ None)
+    pub reordered_met : (strings_unmet layer s t ≡ None) × (strings_unmet layer t s ≡ None)
     reordered_met =
-        let Meets = ItemMeets peer in
+        let Meets = ItemMeets layer in
         let both =
         both_lists type_of_item (MeetBoth Meets) Meets (λ x y m. m) (items_of s) (items_of t)
         last_both in
-        ((string_met peer s t).1 both.0, (string_met peer t s).1 both.1)
+        ((string_met layer s t).1 both.0, (string_met layer t s).1 both.1)

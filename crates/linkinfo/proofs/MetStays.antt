@@ -9,7 +9,7 @@ use Rattle.nla_frame.specs.Payload.{stripped}
 use Rattle.nla_frame.specs.declared.error.Family.{Family}
 use Rattle.linkinfo_table.specs.Last.{attributes_of}
 use Rattle.linkinfo_table.proofs.Lasts.{last_holds}
-use Rattle.linkinfo_table.specs.declared.peer.LinkPeer.{Ghosts}
+use Rattle.linkinfo_table.specs.Layers.{Families, Types}
 use Rattle.linkinfo_data.specs.Unmet.{list_unmet, meets}
 use Rattle.linkinfo.specs.Met.{DifferElsewhere, HaveSameLasts, IsMet, Item, ItemMeets, ListMeets}
 use Rattle.linkinfo.specs.Met.{RoleMeets}
@@ -203,10 +203,10 @@ kept_last want k there s =
 
 -- ---- the list
 
-module _ {P : Type 0} (peer : Ghosts P) where
+module _ {L : Types} (layer : Families L) where
   -- an attribute of the same payload, that belongs to the same where it matters
   item_stays : (want : List Attribute) (h m kept w : Item) → AreSame want h kept →
-      AreSame want m kept → IsWanted want w → ItemMeets peer h w → ItemMeets peer m w
+      AreSame want m kept → IsWanted want w → ItemMeets layer h w → ItemMeets layer m w
   item_stays want h m kept w had more wanted met =
       let r = role_of_item w in
       let nla : h.nla ≡ m.nla = had.nla ∙ sym more.nla in
@@ -227,12 +227,12 @@ module _ {P : Type 0} (peer : Ghosts P) where
         kind =
             agree_kind r m.named h.named w.named
             (agree_at w.named m.named h.named (type_of_item w) kind port) met.kind;
-        payload = subst (λ (a : Attribute). RoleMeets peer r a w.nla) nla met.payload;
+        payload = subst (λ (a : Attribute). RoleMeets layer r a w.nla) nla met.payload;
       }
 
   option_stays : (want : List Attribute) (h m kept w : Option Item) →
       IfSome w (λ _. AreBoth (AreSame want) h kept × AreBoth (AreSame want) m kept) →
-      IfSome w (IsWanted want) → IsMet (ItemMeets peer) h w → IsMet (ItemMeets peer) m w
+      IfSome w (IsWanted want) → IsMet (ItemMeets layer) h w → IsMet (ItemMeets layer) m w
   option_stays want h m kept None same wanted met = tt
   option_stays want None m kept (Some w) same wanted met = absurd met
   option_stays want (Some h) m None (Some w) same wanted met = absurd same.0
@@ -276,11 +276,11 @@ module _ {P : Type 0} (peer : Ghosts P) where
         (λ item w. both_same (type_of_item item) w.here) (items_of want) each)
 
     pub string_stays :
-        strings_unmet peer have want ≡ None → strings_unmet peer more want ≡ None
+        strings_unmet layer have want ≡ None → strings_unmet layer more want ≡ None
     string_stays e =
-        (string_met peer more want).1 (λ k.
+        (string_met layer more want).1 (λ k.
         option_stays wanted (last_of type_of_item k (items_of have))
         (last_of type_of_item k (items_of more)) (last_of type_of_item k kept)
         (last_of type_of_item k (items_of want)) (last_same k)
         (last_holds (IsWanted wanted) (λ item. type_of_item item == k) None (items_of want) each tt)
-        ((string_met peer have want).0 e k))
+        ((string_met layer have want).0 e k))

@@ -1,18 +1,17 @@
 -- Data that is a list is equivalent to other data attribute by attribute, each pair of one type.
 use Rattle.std.specs.Prelude.{◌≡◌, ℕ, Bool, true, List, [], ◌∷◌, map, Result, Ok, Err, IfSome}
 use Rattle.std.specs.List.{AllZip}
-use Rattle.std.proofs.Common.{ap, sym}
-use Rattle.std.proofs.lemmas.Bool.{and_parts, eqb-true}
+use Rattle.std.proofs.lemmas.Bool.{and_parts}
 use Rattle.nla_frame.specs.Attribute.{Attribute, masked}
 use Rattle.nla_frame.specs.NlaItems.{nla_items}
 use Rattle.linkinfo_table.specs.Last.{attributes_of, placed_from}
 use Rattle.linkinfo_table.specs.Lists.{alike_pairs}
 use Rattle.linkinfo_table.specs.Members.{Members}
-use Rattle.linkinfo_table.specs.Rows.{Is, Refused, Row, Unknown, alike_in, row_alike}
 use Rattle.linkinfo_peers.specs.PeerMembers.{netkit_members}
 use Rattle.linkinfo_data.specs.Data.{data_of}
 use Rattle.linkinfo_data.specs.DeviceData.{devices_data_of}
-use Rattle.linkinfo_table.specs.declared.peer.LinkPeer.{Ghosts}
+use Rattle.linkinfo_table.specs.Layers.{Families, HasOneType, IsLayer, Types}
+use Rattle.linkinfo_table.specs.OneType.{rows_type}
 use Rattle.linkinfo_data.specs.LowerData.{lower_data_of}
 use Rattle.linkinfo_data.specs.Payloads.{Payload}
 use Rattle.linkinfo_data.specs.PeerData.{peers_data_of}
@@ -33,20 +32,6 @@ use Rattle.linkinfo_data.specs.declared.tunnels.TunnelFamily.TheVariants as tunn
 use Rattle.linkinfo_data.specs.declared.tunnels.TunnelFamily.{TunnelFamily}
 use Rattle.linkinfo.specs.Met.{nlas_of, type_of}
 
--- ---- equivalent attributes have one type
-
-abbrev pub HaveOneType : (Attribute → Attribute → Bool) → Type 0
-HaveOneType alike = (a b : Attribute) → alike a b ≡ true → type_of a ≡ type_of b
-
-row_type : {F : Type 0} (r : Row F) → HaveOneType (row_alike r)
-row_type (Is e) a b h = sym (eqb-true (masked b.kind) (masked a.kind) (and_parts _ _ h).0)
-row_type (Refused c) a b h = absurd cc
-row_type Unknown a b h = ap masked (sym (eqb-true b.kind a.kind (and_parts _ _ h).0))
-
-pub rows_type : {F : Type 0} (rows : ℕ → Row F) → HaveOneType (alike_in rows)
-unfolding alike_in
-rows_type rows a b h = row_type (rows (masked a.kind)) a b h
-
 -- ---- equivalent lists are equivalent in pairs
 
 abbrev pub ArePair : (Attribute → Attribute → Bool) → Attribute → Attribute → Type 0
@@ -58,7 +43,7 @@ IsPaired payload =
     (s t : List ℕ) → payload.alike s t ≡ true →
     AllZip (ArePair listing.alike) (nlas_of s) (nlas_of t))
 
-pairs_are : (alike : Attribute → Attribute → Bool) → HaveOneType alike →
+pairs_are : (alike : Attribute → Attribute → Bool) → HasOneType alike →
     (ps qs : List (Result Attribute ℕ)) (m n : ℕ) → alike_pairs alike ps qs ≡ true →
     AllZip (ArePair alike) (map (λ p. p.nla) (placed_from m ps))
     (map (λ p. p.nla) (placed_from n qs))
@@ -72,80 +57,84 @@ pairs_are alike typed ((Ok a) ∷ xs) ((Ok b) ∷ ys) m n e =
 pairs_are alike typed ((Ok a) ∷ xs) ((Err k) ∷ ys) m n e = absurd cc
 pairs_are alike typed ((Err k) ∷ xs) (y ∷ ys) m n e = absurd cc
 
-as_paired : {A : Type 0} (f : Members A) → HaveOneType f.alike → (s t : List ℕ) →
+as_paired : {A : Type 0} (f : Members A) → HasOneType f.alike → (s t : List ℕ) →
     alike_pairs f.alike (nla_items s) (nla_items t) ≡ true →
     AllZip (ArePair f.alike) (nlas_of s) (nlas_of t)
 unfolding attributes_of
 as_paired f typed s t e = pairs_are f.alike typed (nla_items s) (nla_items t) 0 0 e
 
-pub lower_paired : (P : Type 0) (f : LowerFamily) → IsPaired (lower_data_of {P = P} f)
+pub lower_paired : {L : Types} (layer : Families L) → IsLayer layer → (f : LowerFamily) →
+    IsPaired (lower_data_of layer f)
 -- Begin: written by tables/generate from tables/kinds (lower).
-lower_paired P lower.Bridge = as_paired plain.bridge (rows_type _)
-lower_paired P lower.Vlan = as_paired plain.vlan (rows_type _)
-lower_paired P lower.Bond = as_paired plain.bond (rows_type _)
-lower_paired P lower.Hsr = as_paired plain.hsr (rows_type _)
-lower_paired P lower.Can = as_paired plain.can (rows_type _)
-lower_paired P lower.Dsa = as_paired plain.dsa (rows_type _)
+lower_paired layer is lower.Bridge = as_paired layer.bridge is.bridge.one_type
+lower_paired layer is lower.Vlan = as_paired layer.vlan is.vlan.one_type
+lower_paired layer is lower.Bond = as_paired layer.bond is.bond.one_type
+lower_paired layer is lower.Hsr = as_paired layer.hsr is.hsr.one_type
+lower_paired layer is lower.Can = as_paired layer.can is.can.one_type
+lower_paired layer is lower.Dsa = as_paired layer.dsa is.dsa.one_type
 
 -- End: written by tables/generate.
 
-pub devices_paired : (P : Type 0) (f : DeviceFamily) → IsPaired (devices_data_of {P = P} f)
+pub devices_paired : {L : Types} (layer : Families L) → IsLayer layer → (f : DeviceFamily) →
+    IsPaired (devices_data_of layer f)
 -- Begin: written by tables/generate from tables/kinds (device).
-devices_paired P device.IpVlan = as_paired plain.ip_vlan (rows_type _)
-devices_paired P device.IpVtap = as_paired plain.ip_vtap (rows_type _)
-devices_paired P (device.MacVlan around) = as_paired (plain.mac_vlan around) (rows_type _)
-devices_paired P (device.MacVtap around) = as_paired (plain.mac_vtap around) (rows_type _)
-devices_paired P device.Vrf = as_paired plain.vrf (rows_type _)
-devices_paired P device.Ipoib = as_paired plain.ipoib (rows_type _)
-devices_paired P device.Xfrm = as_paired plain.xfrm (rows_type _)
-devices_paired P device.MacSec = as_paired plain.mac_sec (rows_type _)
-devices_paired P device.RmNet = as_paired plain.rm_net (rows_type _)
+devices_paired layer is device.IpVlan = as_paired plain.ip_vlan (rows_type _)
+devices_paired layer is device.IpVtap = as_paired plain.ip_vtap (rows_type _)
+devices_paired layer is (device.MacVlan around) = as_paired (plain.mac_vlan around) (rows_type _)
+devices_paired layer is (device.MacVtap around) = as_paired (plain.mac_vtap around) (rows_type _)
+devices_paired layer is device.Vrf = as_paired plain.vrf (rows_type _)
+devices_paired layer is device.Ipoib = as_paired plain.ipoib (rows_type _)
+devices_paired layer is device.Xfrm = as_paired plain.xfrm (rows_type _)
+devices_paired layer is device.MacSec = as_paired plain.mac_sec (rows_type _)
+devices_paired layer is device.RmNet = as_paired plain.rm_net (rows_type _)
 
 -- End: written by tables/generate.
 
-pub tunnels_paired : (P : Type 0) (f : TunnelFamily) → IsPaired (tunnels_data_of {P = P} f)
+pub tunnels_paired : {L : Types} (layer : Families L) → IsLayer layer → (f : TunnelFamily) →
+    IsPaired (tunnels_data_of layer f)
 -- Begin: written by tables/generate from tables/kinds (tunnel).
-tunnels_paired P tunnel.Vxlan = as_paired plain.vxlan (rows_type _)
-tunnels_paired P tunnel.GreTap = as_paired plain.gre (rows_type _)
-tunnels_paired P tunnel.GreTap6 = as_paired plain.gre6 (rows_type _)
-tunnels_paired P (tunnel.IpTunnel tag) = as_paired (plain.ip_tunnel tag) (rows_type _)
-tunnels_paired P tunnel.GreTun = as_paired plain.gre (rows_type _)
-tunnels_paired P tunnel.GreTun6 = as_paired plain.gre6 (rows_type _)
-tunnels_paired P tunnel.Vti = as_paired plain.vti (rows_type _)
-tunnels_paired P tunnel.Gtp = as_paired plain.gtp (rows_type _)
-tunnels_paired P tunnel.Geneve = as_paired plain.geneve (rows_type _)
-tunnels_paired P tunnel.Amt = as_paired plain.amt (rows_type _)
-tunnels_paired P tunnel.BareUdp = as_paired plain.bare_udp (rows_type _)
-tunnels_paired P tunnel.ErSpan = as_paired plain.gre (rows_type _)
-tunnels_paired P tunnel.Ip6ErSpan = as_paired plain.gre6 (rows_type _)
+tunnels_paired layer is tunnel.Vxlan = as_paired plain.vxlan (rows_type _)
+tunnels_paired layer is tunnel.GreTap = as_paired plain.gre (rows_type _)
+tunnels_paired layer is tunnel.GreTap6 = as_paired plain.gre6 (rows_type _)
+tunnels_paired layer is (tunnel.IpTunnel tag) = as_paired (plain.ip_tunnel tag) (rows_type _)
+tunnels_paired layer is tunnel.GreTun = as_paired plain.gre (rows_type _)
+tunnels_paired layer is tunnel.GreTun6 = as_paired plain.gre6 (rows_type _)
+tunnels_paired layer is tunnel.Vti = as_paired plain.vti (rows_type _)
+tunnels_paired layer is tunnel.Gtp = as_paired plain.gtp (rows_type _)
+tunnels_paired layer is tunnel.Geneve = as_paired plain.geneve (rows_type _)
+tunnels_paired layer is tunnel.Amt = as_paired plain.amt (rows_type _)
+tunnels_paired layer is tunnel.BareUdp = as_paired plain.bare_udp (rows_type _)
+tunnels_paired layer is tunnel.ErSpan = as_paired plain.gre (rows_type _)
+tunnels_paired layer is tunnel.Ip6ErSpan = as_paired plain.gre6 (rows_type _)
 
 -- End: written by tables/generate.
 
-pub peers_paired : {P : Type 0} (peer : Ghosts P) → HaveOneType (netkit_members peer).alike →
-    (f : PeeredFamily) → IsPaired (peers_data_of peer f)
+pub peers_paired : {L : Types} (layer : Families L) → IsLayer layer → (f : PeeredFamily) →
+    IsPaired (peers_data_of layer f)
 -- Begin: written by tables/generate from tables/kinds (peered).
-peers_paired peer netkit peered.Tun = as_paired plain.tun (rows_type _)
-peers_paired peer netkit peered.Veth = tt {0}
-peers_paired peer netkit peered.Wireguard = as_paired plain.wireguard (rows_type _)
-peers_paired peer netkit peered.Netkit = as_paired (netkit_members peer) netkit
-peers_paired peer netkit peered.Vxcan = tt {0}
-peers_paired peer netkit peered.BatAdv = as_paired plain.bat_adv (rows_type _)
-peers_paired peer netkit peered.Wwan = as_paired plain.wwan (rows_type _)
-peers_paired peer netkit peered.Pfcp = as_paired plain.pfcp (rows_type _)
+peers_paired layer is peered.Tun = as_paired layer.tun is.tun.one_type
+peers_paired layer is peered.Veth = tt {0}
+peers_paired layer is peered.Wireguard = as_paired plain.wireguard (rows_type _)
+peers_paired layer is peered.Netkit = as_paired (netkit_members layer.peer) (rows_type _)
+peers_paired layer is peered.Vxcan = tt {0}
+peers_paired layer is peered.BatAdv = as_paired plain.bat_adv (rows_type _)
+peers_paired layer is peered.Wwan = as_paired plain.wwan (rows_type _)
+peers_paired layer is peered.Pfcp = as_paired plain.pfcp (rows_type _)
 
 -- End: written by tables/generate.
 
-pub port_paired : (f : PortFamily) → IsPaired (port_data_of f)
-port_paired port_of.Bond = as_paired plain.bond_port (rows_type _)
-port_paired port_of.Bridge = as_paired plain.bridge_port (rows_type _)
-port_paired port_of.Vrf = as_paired plain.vrf_port (rows_type _)
-port_paired port_of.Team = as_paired plain.team_port (rows_type _)
-port_paired port_of.Raw = tt {0}
+pub port_paired : {L : Types} (layer : Families L) → IsLayer layer → (f : PortFamily) →
+    IsPaired (port_data_of layer f)
+port_paired layer is port_of.Bond = as_paired layer.bond_port is.bond_port.one_type
+port_paired layer is port_of.Bridge = as_paired layer.bridge_port is.bridge_port.one_type
+port_paired layer is port_of.Vrf = as_paired plain.vrf_port (rows_type _)
+port_paired layer is port_of.Team = as_paired plain.team_port (rows_type _)
+port_paired layer is port_of.Raw = tt {0}
 
-pub data_paired : {P : Type 0} (peer : Ghosts P) → HaveOneType (netkit_members peer).alike →
-    (f : DataFamily) → IsPaired (data_of peer f)
-data_paired peer netkit (of.Lower f) = lower_paired _ f
-data_paired peer netkit (of.Device f) = devices_paired _ f
-data_paired peer netkit (of.Tunnel f) = tunnels_paired _ f
-data_paired peer netkit (of.Peered f) = peers_paired peer netkit f
-data_paired peer netkit of.Raw = tt {0}
+pub data_paired : {L : Types} (layer : Families L) → IsLayer layer → (f : DataFamily) →
+    IsPaired (data_of layer f)
+data_paired layer is (of.Lower f) = lower_paired layer is f
+data_paired layer is (of.Device f) = devices_paired layer is f
+data_paired layer is (of.Tunnel f) = tunnels_paired layer is f
+data_paired layer is (of.Peered f) = peers_paired layer is f
+data_paired layer is of.Raw = tt {0}

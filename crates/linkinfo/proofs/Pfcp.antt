@@ -27,7 +27,7 @@ use Rattle.linkinfo_numbers.specs.declared.tags.KindTag.TheVariants as tag
 use Rattle.linkinfo_data.specs.declared.info_data.InfoDataOf.TheVariants as held
 use Rattle.linkinfo.specs.declared.link_info.LinkInfoOf.TheVariants as info
 use Rattle.linkinfo_data.specs.Data.{family_of}
-use Rattle.linkinfo_table.specs.declared.peer.LinkPeer.{Ghosts}
+use Rattle.linkinfo_table.specs.Layers.{Families, Types}
 use Rattle.linkinfo_data.specs.declared.data.DataFamily.{DataFamily}
 use Rattle.linkinfo_data.specs.declared.data.DataFamily.TheVariants as of
 use Rattle.linkinfo_table.specs.Lists.{◌>>=◌, values_under, alike_under}
@@ -43,7 +43,7 @@ use Rattle.linkinfo.specs.BeforePfcp.{
 use Rattle.linkinfo.specs.Items.{data_row, link_alike, link_meaning, link_other, link_row}
 use Rattle.linkinfo.specs.Roles.{role_at}
 use Rattle.linkinfo.specs.Strings.{next_kinds, values_from, alike_from}
-use Rattle.linkinfo.specs.declared.link_info.LinkInfoOf.{LinkInfoOf}
+use Rattle.linkinfo.specs.Layered.{LinkOf}
 use Rattle.linkinfo.specs.declared.role.CurrentKinds.{CurrentKinds}
 use Rattle.linkinfo.specs.declared.role.Role.{Role}
 use Rattle.linkinfo.specs.declared.role.Role.TheVariants as role
@@ -58,27 +58,27 @@ pub pfcp_role : (r : Role) → is_pfcp_data r ≡ true → r ≡ role.Data tag.P
 pfcp_role (role.Data t) e = ap (λ (s : KindTag). let r : Role = role.Data s in r) (tag_is t e)
 pfcp_role _ e = absurd cc
 
-module _ {P : Type 0} (peer : Ghosts P) where
+module _ {L : Types} (layer : Families L) where
   pub bytes_before : (t : CurrentKinds) (a : Attribute) → role_at t a ≡ role.Data tag.Pfcp →
-      meaning_before peer t a ≡ Ok (info.Data (held.Other a.value))
+      meaning_before layer t a ≡ Ok (info.Data (held.Other a.value))
   bytes_before t a e =
-      ap (λ (r : Role). row_meaning family.LinkInfo link_other (row_before peer r) a) e
+      ap (λ (r : Role). row_meaning family.LinkInfo link_other (row_before layer r) a) e
 
-  means_by : DataFamily → Attribute → Result (LinkInfoOf P) DecodeError
-  means_by f a = row_meaning family.LinkInfo link_other (data_row peer f) a
+  means_by : DataFamily → Attribute → Result (LinkOf L) DecodeError
+  means_by f a = row_meaning family.LinkInfo link_other (data_row layer f) a
 
   alike_by : DataFamily → Attribute → Attribute → Bool
-  alike_by f a b = row_alike (data_row peer f) a b
+  alike_by f a b = row_alike (data_row layer f) a b
 
   chosen : (b : Bool) (f : DataFamily) → b ≡ false → (if b then of.Raw else f) ≡ f
   chosen true f e = absurd cc
   chosen false f e = refl
 
   role_means : (r : Role) (a : Attribute) → is_pfcp_data r ≡ false →
-      row_meaning family.LinkInfo link_other (link_row peer r) a
-      ≡ row_meaning family.LinkInfo link_other (row_before peer r) a
+      row_meaning family.LinkInfo link_other (link_row layer r) a
+      ≡ row_meaning family.LinkInfo link_other (row_before layer r) a
   role_means (role.Data t) a e =
-      ap (λ (f : DataFamily). row_meaning family.LinkInfo link_other (data_row peer f) a)
+      ap (λ (f : DataFamily). row_meaning family.LinkInfo link_other (data_row layer f) a)
       (sym (chosen (is_pfcp t) (family_of t) e))
   role_means role.Kind a e = refl
   role_means role.Xstats a e = refl
@@ -88,9 +88,9 @@ module _ {P : Type 0} (peer : Ghosts P) where
   role_means role.Unknown a e = refl
 
   role_alike : (r : Role) (a b : Attribute) → is_pfcp_data r ≡ false →
-      row_alike (link_row peer r) a b ≡ row_alike (row_before peer r) a b
+      row_alike (link_row layer r) a b ≡ row_alike (row_before layer r) a b
   role_alike (role.Data t) a b e =
-      ap (λ (f : DataFamily). row_alike (data_row peer f) a b)
+      ap (λ (f : DataFamily). row_alike (data_row layer f) a b)
       (sym (chosen (is_pfcp t) (family_of t) e))
   role_alike role.Kind a b e = refl
   role_alike role.Xstats a b e = refl
@@ -101,14 +101,14 @@ module _ {P : Type 0} (peer : Ghosts P) where
 
   -- what is accepted was accepted before
   raw_or : (b : Bool) (f : DataFamily) (a : Attribute) →
-      IsOk (row_meaning family.LinkInfo link_other (data_row peer f) a) →
-      IsOk (row_meaning family.LinkInfo link_other (data_row peer (if b then of.Raw else f)) a)
+      IsOk (row_meaning family.LinkInfo link_other (data_row layer f) a) →
+      IsOk (row_meaning family.LinkInfo link_other (data_row layer (if b then of.Raw else f)) a)
   raw_or true f a ok = refl
   raw_or false f a ok = ok
 
   role_was : (r : Role) (a : Attribute) →
-      IsOk (row_meaning family.LinkInfo link_other (link_row peer r) a) →
-      IsOk (row_meaning family.LinkInfo link_other (row_before peer r) a)
+      IsOk (row_meaning family.LinkInfo link_other (link_row layer r) a) →
+      IsOk (row_meaning family.LinkInfo link_other (row_before layer r) a)
   role_was (role.Data t) a ok = raw_or (is_pfcp t) (family_of t) a ok
   role_was role.Kind a ok = ok
   role_was role.Xstats a ok = ok
@@ -117,95 +117,95 @@ module _ {P : Type 0} (peer : Ghosts P) where
   role_was role.Misplaced a ok = ok
   role_was role.Unknown a ok = ok
 
-  was : (t : CurrentKinds) (a : Attribute) → IsOk (link_meaning peer t a) →
-      IsOk (meaning_before peer t a)
+  was : (t : CurrentKinds) (a : Attribute) → IsOk (link_meaning layer t a) →
+      IsOk (meaning_before layer t a)
   was t a ok =
-      role_was (role_at t a) a (subst (λ (m : Result (LinkInfoOf P) DecodeError). IsOk m)
-      (meaning_is peer t a (role_at t a) refl) ok)
+      role_was (role_at t a) a (subst (λ (m : Result (LinkOf L) DecodeError). IsOk m)
+      (meaning_is layer t a (role_at t a) refl) ok)
 
-  abbrev both : Result (LinkInfoOf P) DecodeError → Result (List (LinkInfoOf P)) DecodeError →
-      Result (List (LinkInfoOf P)) DecodeError
+  abbrev both : Result (LinkOf L) DecodeError → Result (List (LinkOf L)) DecodeError →
+      Result (List (LinkOf L)) DecodeError
   both m v = m >>= λ x. v >>= λ xs. Ok (x ∷ xs)
 
-  first_of_both : (m : Result (LinkInfoOf P) DecodeError)
-      (v : Result (List (LinkInfoOf P)) DecodeError) → IsOk (both m v) → IsOk m
+  first_of_both : (m : Result (LinkOf L) DecodeError)
+      (v : Result (List (LinkOf L)) DecodeError) → IsOk (both m v) → IsOk m
   first_of_both (Ok x) v e = refl
   first_of_both (Err d) v e = absurd cc
 
-  rest_of_both : (m : Result (LinkInfoOf P) DecodeError)
-      (v : Result (List (LinkInfoOf P)) DecodeError) → IsOk (both m v) → IsOk v
+  rest_of_both : (m : Result (LinkOf L) DecodeError)
+      (v : Result (List (LinkOf L)) DecodeError) → IsOk (both m v) → IsOk v
   rest_of_both (Ok x) (Ok xs) e = refl
   rest_of_both (Ok x) (Err d) e = absurd cc
   rest_of_both (Err d) v e = absurd cc
 
-  both_ok : (m : Result (LinkInfoOf P) DecodeError) (v : Result (List (LinkInfoOf P)) DecodeError) →
+  both_ok : (m : Result (LinkOf L) DecodeError) (v : Result (List (LinkOf L)) DecodeError) →
       IsOk m → IsOk v → IsOk (both m v)
   both_ok (Ok x) (Ok xs) h k = refl
   both_ok (Ok x) (Err d) h k = absurd cc
   both_ok (Err d) v h k = absurd cc
 
   pub accepted_before : (t : CurrentKinds) (ps : List (Result Attribute ℕ)) →
-      IsOk (values_from peer t ps) → IsOk (values_under (meaning_before peer) next_kinds t ps)
+      IsOk (values_from layer t ps) → IsOk (values_under (meaning_before layer) next_kinds t ps)
   accepted_before t [] e = refl
   accepted_before t ((Err n) ∷ more) e = absurd cc
   accepted_before t ((Ok a) ∷ more) e =
-      both_ok (meaning_before peer t a)
-      (values_under (meaning_before peer) next_kinds (next_kinds t a) more)
-      (was t a (first_of_both (link_meaning peer t a) (values_from peer (next_kinds t a) more) e))
+      both_ok (meaning_before layer t a)
+      (values_under (meaning_before layer) next_kinds (next_kinds t a) more)
+      (was t a (first_of_both (link_meaning layer t a) (values_from layer (next_kinds t a) more) e))
       (accepted_before (next_kinds t a) more
-      (rest_of_both (link_meaning peer t a) (values_from peer (next_kinds t a) more) e))
+      (rest_of_both (link_meaning layer t a) (values_from layer (next_kinds t a) more) e))
 
   -- without data under `pfcp` nothing else is parsed
   means_same : (t : CurrentKinds) (a : Attribute) → is_pfcp_data (role_at t a) ≡ false →
-      link_meaning peer t a ≡ meaning_before peer t a
-  means_same t a e = meaning_is peer t a (role_at t a) refl ∙ role_means (role_at t a) a e
+      link_meaning layer t a ≡ meaning_before layer t a
+  means_same t a e = meaning_is layer t a (role_at t a) refl ∙ role_means (role_at t a) a e
 
   pub read_before : (t : CurrentKinds) (ps : List (Result Attribute ℕ)) → NoneIsPfcpData t ps →
-      values_from peer t ps ≡ values_under (meaning_before peer) next_kinds t ps
+      values_from layer t ps ≡ values_under (meaning_before layer) next_kinds t ps
   read_before t [] e = refl
   read_before t ((Err n) ∷ more) e = refl
   read_before t ((Ok a) ∷ more) e =
-      ap (λ (m : Result (LinkInfoOf P) DecodeError).
-      both m (values_from peer (next_kinds t a) more)) (means_same t a e.0)
-      ∙ ap (λ (v : Result (List (LinkInfoOf P)) DecodeError). both (meaning_before peer t a) v)
+      ap (λ (m : Result (LinkOf L) DecodeError).
+      both m (values_from layer (next_kinds t a) more)) (means_same t a e.0)
+      ∙ ap (λ (v : Result (List (LinkOf L)) DecodeError). both (meaning_before layer t a) v)
       (read_before (next_kinds t a) more e.1)
 
   link_alike_is : (t : CurrentKinds) (a b : Attribute) →
-      link_alike peer t a b ≡ row_alike (link_row peer (role_at t a)) a b
+      link_alike layer t a b ≡ row_alike (link_row layer (role_at t a)) a b
   unfolding alike_in
   link_alike_is t a b = refl
 
   alike_same : (t : CurrentKinds) (a b : Attribute) → is_pfcp_data (role_at t a) ≡ false →
-      link_alike peer t a b ≡ alike_before peer t a b
+      link_alike layer t a b ≡ alike_before layer t a b
   alike_same t a b e = link_alike_is t a b ∙ role_alike (role_at t a) a b e
 
   pub alike_first : (t : CurrentKinds) (ps qs : List (Result Attribute ℕ)) → NoneIsPfcpData t ps →
-      alike_from peer t ps qs ≡ alike_under (alike_before peer) next_kinds t ps qs
+      alike_from layer t ps qs ≡ alike_under (alike_before layer) next_kinds t ps qs
   alike_first t [] [] e = refl
   alike_first t [] (q ∷ qs) e = refl
   alike_first t (p ∷ ps) [] e = alike_none p ps e
     where
       alike_none : (p : Result Attribute ℕ) (ps : List (Result Attribute ℕ)) →
           NoneIsPfcpData t (p ∷ ps) →
-          alike_from peer t (p ∷ ps) [] ≡ alike_under (alike_before peer) next_kinds t (p ∷ ps) []
+          alike_from layer t (p ∷ ps) [] ≡ alike_under (alike_before layer) next_kinds t (p ∷ ps) []
       alike_none p ps e = refl
   alike_first t ((Ok a) ∷ ps) ((Ok b) ∷ qs) e =
-      ap (λ (h : Bool). h && alike_from peer (next_kinds t a) ps qs) (alike_same t a b e.0)
-      ∙ ap (λ (h : Bool). alike_before peer t a b && h) (alike_first (next_kinds t a) ps qs e.1)
+      ap (λ (h : Bool). h && alike_from layer (next_kinds t a) ps qs) (alike_same t a b e.0)
+      ∙ ap (λ (h : Bool). alike_before layer t a b && h) (alike_first (next_kinds t a) ps qs e.1)
   alike_first t ((Ok a) ∷ ps) ((Err n) ∷ qs) e = refl
   alike_first t ((Err n) ∷ ps) (q ∷ qs) e = refl
 
   -- equivalent attributes had one type before too, so data under `pfcp` as the second attribute
   -- changes nothing
   before_typed : (r : Role) (t : CurrentKinds) (a b : Attribute) →
-      row_alike (row_before peer r) a b ≡ true → masked b.kind ≡ masked a.kind
+      row_alike (row_before layer r) a b ≡ true → masked b.kind ≡ masked a.kind
   before_typed (role.Data s) t a b h = eqb-true _ _ (and_parts _ _ h).0
-  before_typed role.Kind t a b h = (role_alike_after peer role.Kind t a b h).0
-  before_typed role.Xstats t a b h = (role_alike_after peer role.Xstats t a b h).0
-  before_typed role.PortKind t a b h = (role_alike_after peer role.PortKind t a b h).0
-  before_typed (role.PortData s) t a b h = (role_alike_after peer (role.PortData s) t a b h).0
-  before_typed role.Misplaced t a b h = (role_alike_after peer role.Misplaced t a b h).0
-  before_typed role.Unknown t a b h = (role_alike_after peer role.Unknown t a b h).0
+  before_typed role.Kind t a b h = (role_alike_after layer role.Kind t a b h).0
+  before_typed role.Xstats t a b h = (role_alike_after layer role.Xstats t a b h).0
+  before_typed role.PortKind t a b h = (role_alike_after layer role.PortKind t a b h).0
+  before_typed (role.PortData s) t a b h = (role_alike_after layer (role.PortData s) t a b h).0
+  before_typed role.Misplaced t a b h = (role_alike_after layer role.Misplaced t a b h).0
+  before_typed role.Unknown t a b h = (role_alike_after layer role.Unknown t a b h).0
 
   neither : (x y : Bool) → (x ≡ true → ⊥) → (y ≡ true → ⊥) → x ≡ y
   neither true y h k = absurd (h refl)
@@ -219,17 +219,17 @@ module _ {P : Type 0} (peer : Ghosts P) where
       false_true e = absurd cc
 
   alike_same_second : (t : CurrentKinds) (a b : Attribute) → is_pfcp_data (role_at t b) ≡ false →
-      link_alike peer t a b ≡ alike_before peer t a b
+      link_alike layer t a b ≡ alike_before layer t a b
   alike_same_second t a b e = go (masked b.kind == masked a.kind) refl
     where
       go : (s : Bool) → (masked b.kind == masked a.kind) ≡ s →
-          link_alike peer t a b ≡ alike_before peer t a b
+          link_alike layer t a b ≡ alike_before layer t a b
       go true h =
-          alike_same t a b (ap is_pfcp_data (sym (same_role peer t a b (eqb-true _ _ h))) ∙ e)
+          alike_same t a b (ap is_pfcp_data (sym (same_role layer t a b (eqb-true _ _ h))) ∙ e)
       go false h =
           let apart : masked b.kind ≡ masked a.kind → ⊥ = λ k. differ _ _ h k in
-          neither (link_alike peer t a b) (alike_before peer t a b)
-          (λ k. apart (role_alike_after peer (role_at t a) t a b (sym (link_alike_is t a b) ∙ k)).0)
+          neither (link_alike layer t a b) (alike_before layer t a b)
+          (λ k. apart (role_alike_after layer (role_at t a) t a b (sym (link_alike_is t a b) ∙ k)).0)
           (λ k. apart (before_typed (role_at t a) t a b k))
 
   where_true : (s x y : Bool) → (s ≡ true → x ≡ y) → (s && x) ≡ (s && y)
@@ -237,17 +237,17 @@ module _ {P : Type 0} (peer : Ghosts P) where
   where_true true x y e = e refl
 
   pub alike_second : (t : CurrentKinds) (ps qs : List (Result Attribute ℕ)) → NoneIsPfcpData t qs →
-      alike_from peer t ps qs ≡ alike_under (alike_before peer) next_kinds t ps qs
+      alike_from layer t ps qs ≡ alike_under (alike_before layer) next_kinds t ps qs
   alike_second t [] [] e = refl
   alike_second t [] (q ∷ qs) e = refl
   alike_second t ((Ok a) ∷ ps) [] e = refl
   alike_second t ((Err n) ∷ ps) [] e = refl
   alike_second t ((Ok a) ∷ ps) ((Ok b) ∷ qs) e =
-      ap (λ (h : Bool). h && alike_from peer (next_kinds t a) ps qs) (alike_same_second t a b e.0)
-      ∙ where_true (alike_before peer t a b) (alike_from peer (next_kinds t a) ps qs)
-      (alike_under (alike_before peer) next_kinds (next_kinds t a) ps qs)
+      ap (λ (h : Bool). h && alike_from layer (next_kinds t a) ps qs) (alike_same_second t a b e.0)
+      ∙ where_true (alike_before layer t a b) (alike_from layer (next_kinds t a) ps qs)
+      (alike_under (alike_before layer) next_kinds (next_kinds t a) ps qs)
       (λ h.
-      let same = link_alike_after peer t a b (alike_same_second t a b e.0 ∙ h) in
+      let same = link_alike_after layer t a b (alike_same_second t a b e.0 ∙ h) in
       alike_second (next_kinds t a) ps qs
       (subst (λ (u : CurrentKinds). NoneIsPfcpData u qs) (sym same) e.1))
   alike_second t ((Ok a) ∷ ps) ((Err n) ∷ qs) e = refl

@@ -41,10 +41,10 @@ use Rattle.nla_frame.specs.Payload.{stripped}
 use Rattle.nla_frame.specs.declared.error.Cause.TheVariants as cause
 use Rattle.nla_frame.specs.declared.error.Family.TheVariants as family
 use Rattle.nla_frame.specs.declared.error.DecodeError.{DecodeError}
-use Rattle.linkinfo_table.specs.declared.peer.LinkPeer.{Ghosts}
+use Rattle.linkinfo_table.specs.Layers.{Families, Types}
 use Rattle.linkinfo_table.specs.FamilyRows.{own}
 use Rattle.linkinfo_table.specs.Rows.{labelled, meaning_in, row_meaning}
-use Rattle.linkinfo.specs.declared.link_info.LinkInfoOf.{LinkInfoOf}
+use Rattle.linkinfo.specs.Layered.{LinkOf}
 use Rattle.linkinfo.specs.declared.link_info.LinkInfoOf.TheVariants as info
 use Rattle.linkinfo.specs.declared.role.CurrentKinds.{CurrentKinds}
 use Rattle.linkinfo.specs.declared.role.Role.{Role}
@@ -75,12 +75,12 @@ use Rattle.linkinfo.specs.Walks.{LinkWalk, Moves, TagsByPlace, attribute_of_item
 use Rattle.linkinfo.specs.declared.walk.LinkInfoItem.{LinkInfoItem}
 use Rattle.linkinfo.proofs.Items.{name_read, unknown_from_six}
 
-module _ {P : Type 0} (peer : Ghosts P) where
+module _ {L : Types} (layer : Families L) where
   pub unknown_is_kept : (t : CurrentKinds) (a : Attribute) → role_at t a ≡ role.Unknown →
-      link_meaning peer t a ≡ Ok (link_other (kept a))
+      link_meaning layer t a ≡ Ok (link_other (kept a))
   unfolding meaning_in
   unknown_is_kept t a e =
-      ap (λ (r : Role). row_meaning family.LinkInfo link_other (link_row peer r) a) e
+      ap (λ (r : Role). row_meaning family.LinkInfo link_other (link_row layer r) a) e
 
 -- ---- the current kinds, by the last names
 
@@ -262,20 +262,20 @@ tags_by_place s before item u v led gave =
       port_tag = gave.holds.port_tag ∙ ap (λ (t : CurrentKinds). t.port) is;
     }
 
-module _ {P : Type 0} (peer : Ghosts P) where
+module _ {L : Types} (layer : Families L) where
   -- an accepted attribute has no error of its own
-  named_enters : (a : Attribute) (t : CurrentKinds) (label : List ℕ → LinkInfoOf P)
-      (x : LinkInfoOf P) →
+  named_enters : (a : Attribute) (t : CurrentKinds) (label : List ℕ → LinkOf L)
+      (x : LinkOf L) →
       labelled family.LinkInfo (masked a.kind) label (own (means Name a.value)) ≡ Ok x →
       (kinds : List ℕ → CurrentKinds) →
       with_name (name_meaning a) kinds ≡ Ok (or_stay t (with_name (name_meaning a) kinds))
   named_enters a t label x e kinds =
-      let n = name_read peer a label x e in
+      let n = name_read layer a label x e in
       ap (λ (m : Result (List ℕ) DecodeError). with_name m kinds) n.1
       ∙ ap (λ (m : Result (List ℕ) DecodeError). leaves (or_stay t (with_name m kinds))) (sym n.1)
 
-  role_enters : (r : Role) (t : CurrentKinds) (a : Attribute) (x : LinkInfoOf P) →
-      row_meaning family.LinkInfo link_other (link_row peer r) a ≡ Ok x →
+  role_enters : (r : Role) (t : CurrentKinds) (a : Attribute) (x : LinkOf L) →
+      row_meaning family.LinkInfo link_other (link_row layer r) a ≡ Ok x →
       kinds_after_role r t a ≡ Ok (or_stay t (kinds_after_role r t a))
   role_enters role.Kind t a x e =
       named_enters a t (λ name. info.Kind (kind_of_name name)) x e
@@ -289,13 +289,13 @@ module _ {P : Type 0} (peer : Ghosts P) where
   role_enters role.Misplaced t a x e = absurd cc
   role_enters role.Unknown t a x e = refl
 
-  pub meaning_enters : (t : CurrentKinds) (a : Attribute) (x : LinkInfoOf P) →
-      link_meaning peer t a ≡ Ok x → kinds_after t a ≡ Ok (next_kinds t a)
+  pub meaning_enters : (t : CurrentKinds) (a : Attribute) (x : LinkOf L) →
+      link_meaning layer t a ≡ Ok x → kinds_after t a ≡ Ok (next_kinds t a)
   unfolding meaning_in next_kinds
   meaning_enters t a x e = role_enters (role_at t a) t a x e
 
-  each_leads : (t : CurrentKinds) (front : List Attribute) (xs : List (LinkInfoOf P)) →
-      MeansEach peer t front xs → LeadsTo t front (kinds_after_all t front)
+  each_leads : (t : CurrentKinds) (front : List Attribute) (xs : List (LinkOf L)) →
+      MeansEach layer t front xs → LeadsTo t front (kinds_after_all t front)
   each_leads t [] xs h = refl
   each_leads t (a ∷ more) [] h = absurd h
   each_leads t (a ∷ more) (x ∷ xs) h = (
@@ -304,8 +304,8 @@ module _ {P : Type 0} (peer : Ghosts P) where
     each_leads (next_kinds t a) more xs h.1,
   )
 
-  pub kinds_by_place : (front : List Attribute) (xs : List (LinkInfoOf P)) →
-      MeansEach peer no_kinds front xs →
+  pub kinds_by_place : (front : List Attribute) (xs : List (LinkOf L)) →
+      MeansEach layer no_kinds front xs →
       kinds_after_all no_kinds front
       ≡ record { kind = last_kind front; port = last_port front }
   kinds_by_place front xs h =

@@ -32,10 +32,10 @@ use Rattle.nla_frame.specs.NlaItems.{nla_items, nla_items_of, split}
 use Rattle.nla_frame.specs.declared.error.DecodeError.{DecodeError}
 use Rattle.nla_frame.proofs.Framing.{split_is}
 use Rattle.nla_frame.proofs.Stepping.{nla_items_split}
-use Rattle.linkinfo_table.specs.declared.peer.LinkPeer.{Ghosts}
+use Rattle.linkinfo_table.specs.Layers.{Families, Types}
 use Rattle.linkinfo_table.specs.Lists.{◌>>=◌}
 use Rattle.linkinfo_table.specs.ReadingLaws.{list_has_error}
-use Rattle.linkinfo.specs.declared.link_info.LinkInfoOf.{LinkInfoOf}
+use Rattle.linkinfo.specs.Layered.{LinkOf}
 use Rattle.linkinfo.specs.declared.role.CurrentKinds.{CurrentKinds}
 use Rattle.linkinfo.specs.declared.role.Role.TheVariants as role
 use Rattle.linkinfo.specs.declared.role.Role.{Role}
@@ -124,11 +124,11 @@ refused : {X : Type 0} (m : Result X DecodeError) (e : DecodeError) → Err e �
 refused (Ok x) e h = absurd cc
 refused (Err d) e h = cc
 
-module _ {P : Type 0} (peer : Ghosts P) where
-  means_each-push : (t : CurrentKinds) (front : List Attribute) (xs : List (LinkInfoOf P))
-      (a : Attribute) (x : LinkInfoOf P) → MeansEach peer t front xs →
-      link_meaning peer (kinds_after_all t front) a ≡ Ok x →
-      MeansEach peer t (front ++ a ∷ []) (xs ++ x ∷ [])
+module _ {L : Types} (layer : Families L) where
+  means_each-push : (t : CurrentKinds) (front : List Attribute) (xs : List (LinkOf L))
+      (a : Attribute) (x : LinkOf L) → MeansEach layer t front xs →
+      link_meaning layer (kinds_after_all t front) a ≡ Ok x →
+      MeansEach layer t (front ++ a ∷ []) (xs ++ x ∷ [])
   means_each-push t [] [] a x h e = (e, tt)
   means_each-push t [] (y ∷ ys) a x h e = absurd h
   means_each-push t (b ∷ front) [] a x h e = absurd h
@@ -141,8 +141,8 @@ module _ {P : Type 0} (peer : Ghosts P) where
 
   pub record Went (s : List ℕ) (w : LinkWalk) : Type 0 where
     pub front : List Attribute
-    pub values : List (LinkInfoOf P)
-    pub mean : MeansEach peer no_kinds front values
+    pub values : List (LinkOf L)
+    pub mean : MeansEach layer no_kinds front values
     pub kinds : kinds_after_all no_kinds front ≡ w.kinds
     pub nla_items_are : nla_items s ≡ in_front front (nla_items (left w))
     pub place : place_of w ≡ place_after s front
@@ -161,18 +161,18 @@ module _ {P : Type 0} (peer : Ghosts P) where
 
   pub goes_on : (s : List ℕ) (w : LinkWalk) (a : Attribute) (r : Role) (t : LinkWalk) → Went s w →
       Enters w a r t → t.attributes.source ≡ w.attributes.source →
-      Ok tt ≡ verdict (meant peer r a) → Went s t
+      Ok tt ≡ verdict (meant layer r a) → Went s t
   goes_on s w a r t went enters source means =
-      let value = accepted (meant peer r a) means in
+      let value = accepted (meant layer r a) means in
       let x = value.0 in
-      let here : link_meaning peer w.kinds a ≡ Ok x =
-      meaning_is peer w.kinds a r enters.role ∙ value.1 in
+      let here : link_meaning layer w.kinds a ≡ Ok x =
+      meaning_is layer w.kinds a r enters.role ∙ value.1 in
       record {
         front = went.front ++ a ∷ [];
         values = went.values ++ x ∷ [];
         mean =
             means_each-push no_kinds went.front went.values a x went.mean
-            (ap (λ (u : CurrentKinds). link_meaning peer u a) went.kinds ∙ here);
+            (ap (λ (u : CurrentKinds). link_meaning layer u a) went.kinds ∙ here);
         kinds =
             kinds_after_all-push no_kinds went.front a
             ∙ ap (λ (u : CurrentKinds). next_kinds u a) went.kinds
@@ -193,8 +193,8 @@ module _ {P : Type 0} (peer : Ghosts P) where
   -- the error of the attribute at the walk's offset
   item_at : (s : List ℕ) (w : LinkWalk) (a : Attribute) (ps : List (Result Attribute ℕ))
       (e : DecodeError) → IsBytes s → Went s w → nla_items (left w) ≡ Ok a ∷ ps →
-      link_meaning peer w.kinds a ≡ Err e →
-      IsErrorAt peer s e (place_of w) (place_of w + error_in peer (role_at w.kinds a) a)
+      link_meaning layer w.kinds a ≡ Err e →
+      IsErrorAt layer s e (place_of w) (place_of w + error_in layer (role_at w.kinds a) a)
   item_at s w a ps e bytes went here error =
       let found =
       found_item went.front (split s).front (split s).left a ps
@@ -210,24 +210,24 @@ module _ {P : Type 0} (peer : Ghosts P) where
               subst (λ (z : List Attribute). Splits s z (split s).left) found.1 (split_is s bytes);
           values = went.values;
           mean = went.mean;
-          error = ap (λ (u : CurrentKinds). link_meaning peer u a) went.kinds ∙ error;
+          error = ap (λ (u : CurrentKinds). link_meaning layer u a) went.kinds ∙ error;
         }),
         went.place,
-        ap (λ (u : CurrentKinds). place_of w + error_in peer (role_at u a) a) (sym went.kinds),
+        ap (λ (u : CurrentKinds). place_of w + error_in layer (role_at u a) a) (sym went.kinds),
       )
 
   -- an error of data, or of a list in it
   pub inside_at : (s : List ℕ) (w : LinkWalk) (a : Attribute) (r : Role) (t : LinkWalk)
       (e : DecodeError) → IsBytes s → Went s w → Enters w a r t →
-      Err e ≡ verdict (meant peer r a) →
-      IsErrorAt peer s e (place_of w) (place_of w + error_in peer (role_at w.kinds a) a)
+      Err e ≡ verdict (meant layer r a) →
+      IsErrorAt layer s e (place_of w) (place_of w + error_in layer (role_at w.kinds a) a)
   inside_at s w a r t e bytes went enters error =
       item_at s w a (nla_items (left t)) e bytes went enters.nla_items_are
-      (meaning_is peer w.kinds a r enters.role ∙ refused (meant peer r a) e error)
+      (meaning_is layer w.kinds a r enters.role ∙ refused (meant layer r a) e error)
 
   rest_at : (s : List ℕ) (w : LinkWalk) (k : ℕ) (ps : List (Result Attribute ℕ)) → IsBytes s →
       Went s w → nla_items (left w) ≡ Err k ∷ ps →
-      IsErrorAt peer s header_error (place_of w) (place_of w)
+      IsErrorAt layer s header_error (place_of w) (place_of w)
   rest_at s w k ps bytes went here =
       let found =
       found_rest went.front (split s).front (split s).left k ps
@@ -251,7 +251,7 @@ module _ {P : Type 0} (peer : Ghosts P) where
 
   -- an error of an attribute of the list itself is at its header
   own_error_at : (r : Role) (t : CurrentKinds) (a : Attribute) (e : DecodeError) →
-      kinds_after_role r t a ≡ Err e → error_in peer r a ≡ 0
+      kinds_after_role r t a ≡ Err e → error_in layer r a ≡ 0
   own_error_at (role.Data tag) t a e h = absurd cc
   own_error_at (role.PortData tag) t a e h = absurd cc
   own_error_at role.Kind t a e h = refl
@@ -263,56 +263,56 @@ module _ {P : Type 0} (peer : Ghosts P) where
   -- the error of a walk: a rest without a header, or an error of an attribute itself
   stops_by : (s : List ℕ) (w : LinkWalk) (ps : List (Result Attribute ℕ)) (e : DecodeError)
       (n : ℕ) → IsBytes s → Went s w → nla_items (left w) ≡ ps → ErrorOf w.kinds ps e n →
-      IsErrorAt peer s e (place_of w) (place_of w)
+      IsErrorAt layer s e (place_of w) (place_of w)
   stops_by s w [] e n bytes went here h = absurd h
   stops_by s w ((Err k) ∷ ps) e n bytes went here h =
-      subst (λ (d : DecodeError). IsErrorAt peer s d (place_of w) (place_of w)) (sym h.0)
+      subst (λ (d : DecodeError). IsErrorAt layer s d (place_of w) (place_of w)) (sym h.0)
       (rest_at s w k ps bytes went here)
   stops_by s w ((Ok a) ∷ ps) e n bytes went here h =
       let own = own_error_at (role_at w.kinds a) w.kinds a e h.0 in
-      let same : place_of w + error_in peer (role_at w.kinds a) a ≡ place_of w =
+      let same : place_of w + error_in layer (role_at w.kinds a) a ≡ place_of w =
       omega (arith, own) in
-      subst (λ (inner : ℕ). IsErrorAt peer s e (place_of w) inner) same
+      subst (λ (inner : ℕ). IsErrorAt layer s e (place_of w) inner) same
       (item_at s w a ps e bytes went here
-      (meaning_is peer w.kinds a (role_at w.kinds a) refl
-      ∙ (own_error_is peer (role_at w.kinds a) w.kinds a e h.0).0))
+      (meaning_is layer w.kinds a (role_at w.kinds a) refl
+      ∙ (own_error_is layer (role_at w.kinds a) w.kinds a e h.0).0))
 
   pub stops_at : (s : List ℕ) (w : LinkWalk) (e : DecodeError) (t : LinkWalk) → IsBytes s →
       Went s w → Stops w e t →
-      IsErrorAt peer s e (place_of w) (place_of w)
+      IsErrorAt layer s e (place_of w) (place_of w)
   stops_at s w e t bytes went h = stops_by s w (nla_items (left w)) e h.seen bytes went refl h.error
 
   -- the attribute of the list that has the error
   pub rejected_at : (s : List ℕ) (e : DecodeError) (place inner : ℕ) →
-      IsErrorAt peer s e place inner → IsRejectedAt peer s e place
+      IsErrorAt layer s e place inner → IsRejectedAt layer s e place
   rejected_at s e place inner at = (at.0, at.1)
 
   -- ---- a walk that has visited all attributes
 
-  each_read : (t : CurrentKinds) (front : List Attribute) (xs : List (LinkInfoOf P)) →
-      MeansEach peer t front xs → values_from peer t (in_front front []) ≡ Ok xs
+  each_read : (t : CurrentKinds) (front : List Attribute) (xs : List (LinkOf L)) →
+      MeansEach layer t front xs → values_from layer t (in_front front []) ≡ Ok xs
   each_read t [] [] h = refl
   each_read t [] (x ∷ xs) h = absurd h
   each_read t (a ∷ front) [] h = absurd h
   each_read t (a ∷ front) (x ∷ xs) h =
-      ap (λ (r : Result (LinkInfoOf P) DecodeError). r
-      >>= λ y. values_from peer (next_kinds t a) (in_front front []) >>= λ ys. Ok (y ∷ ys)) h.0
-      ∙ ap (λ (r : Result (List (LinkInfoOf P)) DecodeError). r >>= λ ys. Ok (x ∷ ys))
+      ap (λ (r : Result (LinkOf L) DecodeError). r
+      >>= λ y. values_from layer (next_kinds t a) (in_front front []) >>= λ ys. Ok (y ∷ ys)) h.0
+      ∙ ap (λ (r : Result (List (LinkOf L)) DecodeError). r >>= λ ys. Ok (x ∷ ys))
       (each_read (next_kinds t a) front xs h.1)
 
   pub ends : (s : List ℕ) (w : LinkWalk) → Went s w → nla_items (left w) ≡ [] →
-      IsOk (reading peer s)
+      IsOk (reading layer s)
   unfolding reading
   ends s w went none =
-      ap (λ (r : Result (List (LinkInfoOf P)) DecodeError). is_ok r) (
-      ap (λ (ps : List (Result Attribute ℕ)). values_from peer no_kinds ps)
+      ap (λ (r : Result (List (LinkOf L)) DecodeError). is_ok r) (
+      ap (λ (ps : List (Result Attribute ℕ)). values_from layer no_kinds ps)
       (went.nla_items_are ∙ ap (λ (qs : List (Result Attribute ℕ)). in_front went.front qs) none)
       ∙ each_read no_kinds went.front went.values went.mean
       )
 
   -- the result of parsing a byte string that has an error
-  pub reads_error : (s : List ℕ) (e : DecodeError) → IsBytes s → IsRejected peer s e →
-      reading peer s ≡ Err e
+  pub reads_error : (s : List ℕ) (e : DecodeError) → IsBytes s → IsRejected layer s e →
+      reading layer s ≡ Err e
   unfolding reading
   reads_error s e bytes rejected =
-      (list_has_error (link_meaning peer) next_kinds no_kinds s e bytes).1 rejected
+      (list_has_error (link_meaning layer) next_kinds no_kinds s e bytes).1 rejected

@@ -12,17 +12,17 @@ use Rattle.linkinfo_numbers.specs.declared.tags.KindTag.{KindTag}
 use Rattle.linkinfo_numbers.specs.declared.tags.PortTag.{PortTag}
 use Rattle.linkinfo_table.specs.Lists.{well_under}
 use Rattle.linkinfo_table.specs.Rows.{WellAt, WellFormed}
-use Rattle.linkinfo_data.specs.Conditions.{AreStated, data_conditions, port_data_conditions}
+use Rattle.linkinfo_data.specs.Conditions.{AreStated, FamilyConditions, data_conditions}
+use Rattle.linkinfo_data.specs.Conditions.{port_data_conditions}
 use Rattle.linkinfo_data.specs.Data.{family_of}
-use Rattle.linkinfo_table.specs.declared.peer.LinkPeer.{Ghosts}
+use Rattle.linkinfo_table.specs.Layers.{Families, Types}
 use Rattle.linkinfo_data.specs.PortData.{port_family_of}
-use Rattle.linkinfo_data.specs.declared.info_data.InfoDataOf.{InfoDataOf}
-use Rattle.linkinfo_data.specs.declared.port_data.InfoPortData.{InfoPortData}
+use Rattle.linkinfo_data.specs.Layered.{DataOf, PortDataOf}
 use Rattle.linkinfo.specs.Items.{link_other, link_row, link_well}
 use Rattle.linkinfo.specs.Roles.{no_kinds, role_of, role_under}
 use Rattle.linkinfo.specs.Strings.{WellFormed as WellFormedList, kinds_after_value}
 use Rattle.linkinfo.specs.Xstats.{xstats_bytes}
-use Rattle.linkinfo.specs.declared.link_info.LinkInfoOf.{LinkInfoOf}
+use Rattle.linkinfo.specs.Layered.{LinkOf}
 use Rattle.linkinfo.specs.declared.link_info.LinkInfoOf.TheVariants as info
 use Rattle.linkinfo.specs.declared.role.CurrentKinds.{CurrentKinds}
 use Rattle.linkinfo.specs.declared.role.Role.{Role}
@@ -33,46 +33,48 @@ use Rattle.linkinfo.specs.Conditions.{Conditions, IsDataUnder, IsPortDataUnder, 
 use Rattle.linkinfo.specs.Conditions.{item_conditions}
 use Rattle.linkinfo.proofs.Items.{unknown_from_six}
 
-module _ {P : Type 0} (peer : Ghosts P) (well : P → Type 0) (stated : AreStated peer well) where
-  abbrev IsWell : Role → LinkInfoOf P → Type 0
-  IsWell r x = WellAt link_other (link_row peer r) x
+module _ {L : Types} (layer : Families L) (well : FamilyConditions L)
+    (stated : AreStated layer well) where
+  abbrev IsWell : Role → LinkOf L → Type 0
+  IsWell r x = WellAt link_other (link_row layer r) x
 
-  data_stated : (kind : Option KindTag) (d : InfoDataOf P) →
-      IsWell (role_under kind (λ tag. role.Data tag)) (info.Data d) ↔ IsDataUnder well kind d
+  data_stated : (kind : Option KindTag) (d : DataOf L) →
+      IsWell (role_under kind (λ tag. role.Data tag)) (info.Data d) ↔ IsDataUnder layer.peer.well well kind d
   data_stated None d = (λ w. absurd w, λ h. let no = h.1 in absurd cc)
   data_stated (Some tag) d = (
     λ w.
         let same : w.0 ≡ d = cc in (
           tag,
           refl,
-          subst (λ (e : InfoDataOf P). data_conditions well (family_of tag) e) same
+          subst (λ (e : DataOf L). data_conditions layer.peer.well well (family_of tag) e) same
               ((stated.link (family_of tag) w.0).0 w.1),
         ),
     λ h.
         let same : h.0 ≡ tag = cc in (
           d,
           (stated.link (family_of tag) d).1
-              (subst (λ (g : KindTag). data_conditions well (family_of g) d) same h.2),
+              (subst (λ (g : KindTag). data_conditions layer.peer.well well (family_of g) d) same h.2),
           refl,
         ),
   )
 
-  port_data_stated : (port : Option PortTag) (d : InfoPortData) →
-      IsWell (role_under port (λ tag. role.PortData tag)) (info.PortData d) ↔ IsPortDataUnder port d
+  port_data_stated : (port : Option PortTag) (d : PortDataOf L) →
+      IsWell (role_under port (λ tag. role.PortData tag)) (info.PortData d) ↔
+      IsPortDataUnder layer.peer.well well port d
   port_data_stated None d = (λ w. absurd w, λ h. let no = h.1 in absurd cc)
   port_data_stated (Some tag) d = (
     λ w.
         let same : w.0 ≡ d = cc in (
           tag,
           refl,
-          subst (λ (e : InfoPortData). port_data_conditions (port_family_of tag) e) same
+          subst (λ (e : PortDataOf L). port_data_conditions layer.peer.well well (port_family_of tag) e) same
               ((stated.port (port_family_of tag) w.0).0 w.1),
         ),
     λ h.
         let same : h.0 ≡ tag = cc in (
           d,
           (stated.port (port_family_of tag) d).1
-              (subst (λ (g : PortTag). port_data_conditions (port_family_of g) d) same h.2),
+              (subst (λ (g : PortTag). port_data_conditions layer.peer.well well (port_family_of g) d) same h.2),
           refl,
         ),
   )
@@ -143,28 +145,28 @@ module _ {P : Type 0} (peer : Ghosts P) (well : P → Type 0) (stated : AreState
       ((d.kind < 65536) × IsBytes d.value × IsUnnamed k)) (sym (unknown_from_six t n))
       (kept_stated k d (λ e. cc, λ e. cc, λ e. cc, λ e. cc, λ e. cc))
 
-  pub item_stated : (t : CurrentKinds) (x : LinkInfoOf P) → link_well peer t x
-      ↔ item_conditions well t x
+  pub item_stated : (t : CurrentKinds) (x : LinkOf L) → link_well layer t x
+      ↔ item_conditions layer.peer.well well t x
   unfolding WellFormed role_of kind_of_name port_kind_of_name
   item_stated t = elim [
-    | info.Kind k ↦ table_label kind_table_holds IsText (λ y. info.Kind y) (item_conditions well t)
+    | info.Kind k ↦ table_label kind_table_holds IsText (λ y. info.Kind y) (item_conditions layer.peer.well well t)
         (λ _ is. is) (λ _ is. is) k
     | info.Data d ↦ data_stated t.kind d
     | info.Xstats x ↦ statistics_stated t.kind x
     | info.PortKind k ↦ table_label port_kind_table_holds IsText (λ y. info.PortKind y)
-        (item_conditions well t) (λ _ is. is) (λ _ is. is) k
+        (item_conditions layer.peer.well well t) (λ _ is. is) (λ _ is. is) k
     | info.PortData d ↦ port_data_stated t.port d
     | info.Other d ↦ unknown_stated t (masked d.kind) d
   ]
 
-  under_stated : (t : CurrentKinds) (xs : List (LinkInfoOf P)) →
-      well_under (link_well peer) kinds_after_value t xs ↔
-      well_under (item_conditions well) kinds_after_value t xs
+  under_stated : (t : CurrentKinds) (xs : List (LinkOf L)) →
+      well_under (link_well layer) kinds_after_value t xs ↔
+      well_under (item_conditions layer.peer.well well) kinds_after_value t xs
   under_stated t [] = (λ h. tt, λ h. tt)
   under_stated t (x ∷ xs) = (
     λ h. ((item_stated t x).0 h.0, (under_stated (kinds_after_value t x) xs).0 h.1),
     λ h. ((item_stated t x).1 h.0, (under_stated (kinds_after_value t x) xs).1 h.1),
   )
 
-  pub list_stated : (xs : List (LinkInfoOf P)) → WellFormedList peer xs ↔ Conditions well xs
+  pub list_stated : (xs : List (LinkOf L)) → WellFormedList layer xs ↔ Conditions layer.peer.well well xs
   list_stated xs = under_stated no_kinds xs

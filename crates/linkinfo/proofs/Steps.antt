@@ -33,7 +33,7 @@ use Rattle.nla_frame.specs.declared.error.Family.TheVariants as family
 use Rattle.nla_frame.specs.declared.error.DecodeError.{DecodeError}
 use Rattle.linkinfo_numbers.specs.Kind.{kind_of_name}
 use Rattle.linkinfo_numbers.specs.PortKind.{port_kind_of_name}
-use Rattle.linkinfo_table.specs.declared.peer.LinkPeer.{Ghosts}
+use Rattle.linkinfo_table.specs.Layers.{Families, Types}
 use Rattle.linkinfo_table.specs.Lists.{◌>>=◌, if_read, append_to as front}
 use Rattle.linkinfo_table.specs.Rows.{
   meaning_in,
@@ -43,7 +43,7 @@ use Rattle.linkinfo_table.specs.Rows.{
   row_headers,
   row_needs_memory,
 }
-use Rattle.linkinfo.specs.declared.link_info.LinkInfoOf.{LinkInfoOf}
+use Rattle.linkinfo.specs.Layered.{LinkOf}
 use Rattle.linkinfo.specs.declared.link_info.LinkInfoOf.TheVariants as info
 use Rattle.linkinfo.specs.declared.role.CurrentKinds.{CurrentKinds}
 use Rattle.linkinfo.specs.declared.role.Role.{Role}
@@ -90,34 +90,34 @@ entered_any role.PortKind t u a e = go (name_meaning a) _ _ e
 entered_any role.Misplaced t u a e = absurd cc
 entered_any _ t u a e = refl
 
-module _ {P : Type 0} (peer : Ghosts P) where
-  abbrev pub meant : Role → Attribute → Result (LinkInfoOf P) DecodeError
-  meant r a = row_meaning family.LinkInfo link_other (link_row peer r) a
+module _ {L : Types} (layer : Families L) where
+  abbrev pub meant : Role → Attribute → Result (LinkOf L) DecodeError
+  meant r a = row_meaning family.LinkInfo link_other (link_row layer r) a
 
   pub meaning_is : (t : CurrentKinds) (a : Attribute) (r : Role) → r ≡ role_at t a →
-      link_meaning peer t a ≡ meant r a
+      link_meaning layer t a ≡ meant r a
   unfolding meaning_in
   meaning_is t a r e = ap (λ (s : Role). meant s a) (sym e)
 
   pub headers_is : (t : CurrentKinds) (a : Attribute) (r : Role) → r ≡ role_at t a →
-      link_headers peer t a ≡ row_headers (link_row peer r) a
+      link_headers layer t a ≡ row_headers (link_row layer r) a
   unfolding headers_inside
-  headers_is t a r e = ap (λ (s : Role). row_headers (link_row peer s) a) (sym e)
+  headers_is t a r e = ap (λ (s : Role). row_headers (link_row layer s) a) (sym e)
 
   memory_is : (t : CurrentKinds) (a : Attribute) (r : Role) → r ≡ role_at t a →
-      link_needs_memory peer t a ≡ row_needs_memory (link_row peer r) a
+      link_needs_memory layer t a ≡ row_needs_memory (link_row layer r) a
   unfolding memory_in
-  memory_is t a r e = ap (λ (s : Role). row_needs_memory (link_row peer s) a) (sym e)
+  memory_is t a r e = ap (λ (s : Role). row_needs_memory (link_row layer s) a) (sym e)
 
   -- a step to an attribute
   pub record Entered (s : LinkWalk) (a : Attribute) (r : Role) (t : LinkWalk) : Type 0 where
-    pub values : values_from peer s.kinds (nla_items (left s))
-        ≡ (meant r a >>= λ x. values_from peer t.kinds (nla_items (left t)) >>= λ xs. Ok (x ∷ xs))
-    pub headers : headers_from peer s.kinds (nla_items (left s))
-        ≡ 1 + (row_headers (link_row peer r) a
-        + if_read (meant r a) (headers_from peer t.kinds (nla_items (left t))))
-    pub memory : memory_from peer s.kinds (nla_items (left s))
-        ≡ (row_needs_memory (link_row peer r) a || is_ok (meant r a))
+    pub values : values_from layer s.kinds (nla_items (left s))
+        ≡ (meant r a >>= λ x. values_from layer t.kinds (nla_items (left t)) >>= λ xs. Ok (x ∷ xs))
+    pub headers : headers_from layer s.kinds (nla_items (left s))
+        ≡ 1 + (row_headers (link_row layer r) a
+        + if_read (meant r a) (headers_from layer t.kinds (nla_items (left t))))
+    pub memory : memory_from layer s.kinds (nla_items (left s))
+        ≡ (row_needs_memory (link_row layer r) a || is_ok (meant r a))
     pub clean : IsOk (kinds_after_role r no_kinds a)
     pub kinds_after : kinds_after_role r s.kinds a ≡ Ok t.kinds
     pub attribute : IsAttribute a
@@ -133,26 +133,26 @@ module _ {P : Type 0} (peer : Ghosts P) where
       let kinds_after_is = ap (λ (q : Role). kinds_after_role q s.kinds a) h.role ∙ h.kinds_after in
       record {
         values =
-            ap (λ (ps : List (Result Attribute ℕ)). values_from peer s.kinds ps) h.nla_items_are
-            ∙ ap (λ (m : Result (LinkInfoOf P) DecodeError). m
-            >>= λ x. values_from peer (next_kinds s.kinds a) more >>= λ xs. Ok (x ∷ xs)) means
+            ap (λ (ps : List (Result Attribute ℕ)). values_from layer s.kinds ps) h.nla_items_are
+            ∙ ap (λ (m : Result (LinkOf L) DecodeError). m
+            >>= λ x. values_from layer (next_kinds s.kinds a) more >>= λ xs. Ok (x ∷ xs)) means
             ∙ ap
-            (λ (u : CurrentKinds). meant r a >>= λ x. values_from peer u more >>= λ xs. Ok (x ∷ xs))
+            (λ (u : CurrentKinds). meant r a >>= λ x. values_from layer u more >>= λ xs. Ok (x ∷ xs))
             after;
         headers =
-            ap (λ (ps : List (Result Attribute ℕ)). headers_from peer s.kinds ps) h.nla_items_are
-            ∙ ap (λ (m : Result (LinkInfoOf P) DecodeError). 1
-            + (link_headers peer s.kinds a
-            + if_read m (headers_from peer (next_kinds s.kinds a) more))) means
+            ap (λ (ps : List (Result Attribute ℕ)). headers_from layer s.kinds ps) h.nla_items_are
+            ∙ ap (λ (m : Result (LinkOf L) DecodeError). 1
+            + (link_headers layer s.kinds a
+            + if_read m (headers_from layer (next_kinds s.kinds a) more))) means
             ∙ ap (λ (n : ℕ). 1
-            + (n + if_read (meant r a) (headers_from peer (next_kinds s.kinds a) more)))
+            + (n + if_read (meant r a) (headers_from layer (next_kinds s.kinds a) more)))
             (headers_is s.kinds a r h.role)
             ∙ ap (λ (u : CurrentKinds). 1
-            + (row_headers (link_row peer r) a + if_read (meant r a) (headers_from peer u more)))
+            + (row_headers (link_row layer r) a + if_read (meant r a) (headers_from layer u more)))
             after;
         memory =
-            ap (λ (ps : List (Result Attribute ℕ)). memory_from peer s.kinds ps) h.nla_items_are
-            ∙ ap (λ (m : Result (LinkInfoOf P) DecodeError). link_needs_memory peer s.kinds a
+            ap (λ (ps : List (Result Attribute ℕ)). memory_from layer s.kinds ps) h.nla_items_are
+            ∙ ap (λ (m : Result (LinkOf L) DecodeError). link_needs_memory layer s.kinds a
             || is_ok m) means
             ∙ ap (λ (n : Bool). n || is_ok (meant r a)) (memory_is s.kinds a r h.role);
         clean = entered_any r s.kinds t.kinds a kinds_after_is;
@@ -164,7 +164,7 @@ module _ {P : Type 0} (peer : Ghosts P) where
 
   -- an error of an attribute itself is what the attribute means
   pub own_error_is : (r : Role) (t : CurrentKinds) (a : Attribute) (e : DecodeError) →
-      kinds_after_role r t a ≡ Err e → (meant r a ≡ Err e) × (row_headers (link_row peer r) a ≡ 0)
+      kinds_after_role r t a ≡ Err e → (meant r a ≡ Err e) × (row_headers (link_row layer r) a ≡ 0)
   own_error_is role.Kind t a e h = (
     named_err (λ name. info.Kind (kind_of_name name)) a e (go (name_meaning a) _ h),
     refl,
@@ -188,16 +188,16 @@ module _ {P : Type 0} (peer : Ghosts P) where
 
   -- the error at which a walk stops
   pub record Stopped (s : LinkWalk) (e : DecodeError) (t : LinkWalk) : Type 0 where
-    pub values : values_from peer s.kinds (nla_items (left s)) ≡ Err e
+    pub values : values_from layer s.kinds (nla_items (left s)) ≡ Err e
     pub headers : t.attributes.examined
-        ≡ s.attributes.examined + headers_from peer s.kinds (nla_items (left s))
+        ≡ s.attributes.examined + headers_from layer s.kinds (nla_items (left s))
     pub room : 4 * t.attributes.examined ≤ 4 * s.attributes.examined + length (left s)
 
   error_is : (t : CurrentKinds) (ps : List (Result Attribute ℕ)) (e : DecodeError) (n : ℕ) →
-      ErrorOf t ps e n → (values_from peer t ps ≡ Err e) × (headers_from peer t ps ≡ n)
+      ErrorOf t ps e n → (values_from layer t ps ≡ Err e) × (headers_from layer t ps ≡ n)
   error_is t [] e n h = absurd h
   error_is t ((Err k) ∷ more) e n h = (
-    ap (λ (d : DecodeError). let r : Result (List (LinkInfoOf P)) DecodeError = Err d in r)
+    ap (λ (d : DecodeError). let r : Result (List (LinkOf L)) DecodeError = Err d in r)
         (sym h.0),
     sym h.1,
   )
@@ -205,10 +205,10 @@ module _ {P : Type 0} (peer : Ghosts P) where
       let own = own_error_is (role_at t a) t a e h.0 in
       let means = meaning_is t a (role_at t a) refl ∙ own.0 in
       let none = headers_is t a (role_at t a) refl ∙ own.1 in (
-        ap (λ (m : Result (LinkInfoOf P) DecodeError). m
-            >>= λ x. values_from peer (next_kinds t a) more >>= λ xs. Ok (x ∷ xs)) means,
-        ap (λ (m : Result (LinkInfoOf P) DecodeError). 1
-            + (link_headers peer t a + if_read m (headers_from peer (next_kinds t a) more))) means
+        ap (λ (m : Result (LinkOf L) DecodeError). m
+            >>= λ x. values_from layer (next_kinds t a) more >>= λ xs. Ok (x ∷ xs)) means,
+        ap (λ (m : Result (LinkOf L) DecodeError). 1
+            + (link_headers layer t a + if_read m (headers_from layer (next_kinds t a) more))) means
             ∙ ap (λ (k : ℕ). 1 + (k + 0)) none
             ∙ sym h.1,
       )

@@ -54,7 +54,7 @@ use Rattle.linkinfo_table.specs.Last.{
 }
 use Rattle.linkinfo_table.specs.declared.last.PlacedNla.{PlacedNla}
 use Rattle.linkinfo_table.proofs.Lasts.{all_stand, last_passes, last_stands, stands_within}
-use Rattle.linkinfo_table.specs.declared.peer.LinkPeer.{Ghosts}
+use Rattle.linkinfo_table.specs.Layers.{Families, Types}
 use Rattle.linkinfo_data.specs.Listing.{Listing, alike_in, family_in}
 use Rattle.linkinfo_data.specs.Unmet.{
   counts,
@@ -100,7 +100,7 @@ use Rattle.linkinfo.specs.UnmetSteps.{
   name_there,
   port_place,
 }
-use Rattle.linkinfo.specs.declared.link_info.LinkInfoOf.{LinkInfoOf}
+use Rattle.linkinfo.specs.Layered.{LinkOf}
 use Rattle.linkinfo.specs.declared.link_info.LinkInfoOf.TheVariants as info
 use Rattle.linkinfo.specs.declared.role.CurrentKinds.{CurrentKinds}
 use Rattle.linkinfo.specs.declared.role.Role.TheVariants as role
@@ -169,20 +169,20 @@ none_before n names (p ∷ more) far =
     let later : nat_lt p.offset n ≡ false = grind (arith, nat_tests, far.0) in
     rw later (none_before n names more far.1)
 
-module _ {P : Type 0} (peer : Ghosts P) where
+module _ {L : Types} (layer : Families L) where
   named_after : (names : Named) (a : Attribute) →
-      IsOk (link_meaning peer (kinds_named names) a) →
+      IsOk (link_meaning layer (kinds_named names) a) →
       next_kinds (kinds_named names) a ≡ kinds_named (names_after names a)
-  named_after names a ok = go (link_meaning peer (kinds_named names) a) refl ok
+  named_after names a ok = go (link_meaning layer (kinds_named names) a) refl ok
     where
-      go : (m : Result (LinkInfoOf P) DecodeError) →
-          link_meaning peer (kinds_named names) a ≡ m → IsOk m →
+      go : (m : Result (LinkOf L) DecodeError) →
+          link_meaning layer (kinds_named names) a ≡ m → IsOk m →
           next_kinds (kinds_named names) a ≡ kinds_named (names_after names a)
       go (Ok x) e i =
           let u = next_kinds (kinds_named names) a in
           let is =
           kinds_after_at (masked a.kind) (kinds_named names) a u
-          (meaning_enters peer (kinds_named names) a x e) in
+          (meaning_enters layer (kinds_named names) a x e) in
           kinds_are u _ _
           (is.kind ∙ kind_named (eqb (masked a.kind) 1) (stripped a.value) names.kind)
           (is.port
@@ -192,14 +192,14 @@ module _ {P : Type 0} (peer : Ghosts P) where
 
   -- what holds under the kinds after an attribute holds under those of the names after it
   pub under_next : (Q : CurrentKinds → Type 0) (names : Named) (a : Attribute) →
-      IsOk (link_meaning peer (kinds_named names) a) → Q (next_kinds (kinds_named names) a) →
+      IsOk (link_meaning layer (kinds_named names) a) → Q (next_kinds (kinds_named names) a) →
       Q (kinds_named (names_after names a))
   under_next Q names a ok h = subst Q (named_after names a ok) h
 
   -- ---- each attribute of an accepted list means something under its names
 
   abbrev MeansUnder : Named → PlacedNla → Type 0
-  MeansUnder names p = IsOk (link_meaning peer (kinds_named names) p.nla)
+  MeansUnder names p = IsOk (link_meaning layer (kinds_named names) p.nla)
 
   -- under the names before it, from some names on
   abbrev MeansIn : Named → List PlacedNla → PlacedNla → Type 0
@@ -231,18 +231,18 @@ module _ {P : Type 0} (peer : Ghosts P) where
     pub all_after : AllAfter n (placed_from n (nla_items s))
 
   each : (s : List ℕ) (names : Named) (n : ℕ) →
-      IsOk (values_from peer (kinds_named names) (nla_items s)) → Each names n s
+      IsOk (values_from layer (kinds_named names) (nla_items s)) → Each names n s
   each s =
       by_nla_items (λ s. (names : Named) (n : ℕ) →
-      IsOk (values_from peer (kinds_named names) (nla_items s)) → Each names n s)
+      IsOk (values_from layer (kinds_named names) (nla_items s)) → Each names n s)
       (λ names n ok. record { means = rw nla_items_nil tt; all_after = rw nla_items_nil tt })
       (λ t some e names n ok. record { means = rw e tt; all_after = rw e tt })
       (λ t a rest e room more names n ok.
-      let f = front peer (kinds_named names) a t rest e ok in
+      let f = front layer (kinds_named names) a t rest e ok in
       let next = names_after names a in
       let after = n + aligned (4 + length a.value) in
-      let go : IsOk (values_from peer (kinds_named next) (nla_items rest)) =
-      subst (λ (t : CurrentKinds). IsOk (values_from peer t (nla_items rest)))
+      let go : IsOk (values_from layer (kinds_named next) (nla_items rest)) =
+      subst (λ (t : CurrentKinds). IsOk (values_from layer t (nla_items rest)))
       (named_after names a f.first) f.more in
       let tail = more next after go in
       let p : PlacedNla = record { offset = n; nla = a } in
@@ -266,15 +266,15 @@ module _ {P : Type 0} (peer : Ghosts P) where
   accepted : (s : List ℕ) (list : List PlacedNla) → length s < 2 ^ 64 →
       AllByRecursion (StandsIn s) list →
       AllByRecursion (MeansIn no_names (attributes_of s)) list →
-      AllByRecursion (λ p. IsAcceptedLink peer (link_at s p)) list
+      AllByRecursion (λ p. IsAcceptedLink layer (link_at s p)) list
   accepted s [] small h k = tt
   accepted s (p ∷ more) small h k = (
     record { means = k.0; room = omega (arith, stands_within s p h.0, small) },
     accepted s more small h.1 k.1,
   )
 
-  pub links_accepted : (s : List ℕ) → length s < 2 ^ 64 → IsOk (reading peer s) →
-      AllByRecursion (λ p. IsAcceptedLink peer (link_at s p)) (attributes_of s)
+  pub links_accepted : (s : List ℕ) → length s < 2 ^ 64 → IsOk (reading layer s) →
+      AllByRecursion (λ p. IsAcceptedLink layer (link_at s p)) (attributes_of s)
   unfolding reading attributes_of
   links_accepted s small ok =
       accepted s (attributes_of s) small (all_stand s) (each s no_names 0 ok).means
@@ -376,12 +376,12 @@ first_of_told unmet (p ∷ more) =
     (first_of_told unmet more)
 
 -- .. once no type is left
-pub whole_list : {P : Type 0} (peer : Ghosts P) (have want : List ℕ) (n : ℕ)
+pub whole_list : {L : Types} (layer : Families L) (have want : List ℕ) (n : ℕ)
     (first : Option UnmetAt) →
-    first ≡ first_told (λ k. nat_lt k n) (counted_unmet peer have want) (attributes_of want) →
-    types_end (attributes_of want) ≤ n → unmet_in first ≡ strings_unmet peer have want
-whole_list peer have want n first e le =
-    let unmet = counted_unmet peer have want in
+    first ≡ first_told (λ k. nat_lt k n) (counted_unmet layer have want) (attributes_of want) →
+    types_end (attributes_of want) ≤ n → unmet_in first ≡ strings_unmet layer have want
+whole_list layer have want n first e le =
+    let unmet = counted_unmet layer have want in
     ap unmet_in (e ∙ all_types n unmet (attributes_of want) le)
     ∙ first_of_told unmet (attributes_of want)
 
@@ -453,24 +453,24 @@ last_type kind list = go (last_of_type kind list) (last_passes (has_type kind) N
     go None h = tt
     go (Some p) h = eqb-true _ _ h
 
-module _ {P : Type 0} (peer : Ghosts P) (start : ℕ) (have want : List ℕ)
+module _ {L : Types} (layer : Families L) (start : ℕ) (have want : List ℕ)
     (w : PlacedNla) where
   abbrev Told : Option UnmetAt → Type 0
-  Told o = told_from (covers start) (counted_unmet peer have want) w ≡ o
+  Told o = told_from (covers start) (counted_unmet layer have want) w ≡ o
 
   -- what of an attribute that counts is not met
   pub told_is : (found : Option PlacedNla) (r : Option Unmet) →
       (covers start (masked w.nla.kind) && counts (attributes_of want) w) ≡ true →
       found ≡ last_like (attributes_of have) w →
-      r ≡ link_unmet peer (option_map (link_at have) found) (link_at want w) →
+      r ≡ link_unmet layer (option_map (link_at have) found) (link_at want w) →
       Told (option_map (λ u. record { offset = w.offset; unmet = u }) r)
   told_is found r e last is =
       let both =
       and_both (covers start (masked w.nla.kind)) (counts (attributes_of want) w) e in
       let like = last_like (attributes_of have) w in
-      let same : r ≡ link_unmet peer (option_map (link_at have) like) (link_at want w) =
+      let same : r ≡ link_unmet layer (option_map (link_at have) like) (link_at want w) =
       is ∙ ap (λ (o : Option PlacedNla).
-      link_unmet peer (option_map (link_at have) o) (link_at want w)) last in
+      link_unmet layer (option_map (link_at have) o) (link_at want w)) last in
       rw (both.0, both.1, ← same) refl
 
   -- one without an entry, or that does not count
@@ -592,9 +592,9 @@ pub one_role : (m n : Named) (k : ℕ) → role_of (kinds_named n) k ≢ role.Mi
     role_of (kinds_named m) k ≡ role_of (kinds_named n) k
 one_role m n k known same = role_is m n k (role_of (kinds_named n) k) refl known same
 
-module _ {P : Type 0} (peer : Ghosts P) where
+module _ {L : Types} (layer : Families L) where
   abbrev ok_meant : Role → Attribute → Type 0
-  ok_meant r a = IsOk (meant peer r a)
+  ok_meant r a = IsOk (meant layer r a)
 
   is_placed : (r : Role) (a : Attribute) → ok_meant r a → r ≢ role.Misplaced
   is_placed r a ok e = no (subst (λ (q : Role). ok_meant q a) e ok)
@@ -604,15 +604,15 @@ module _ {P : Type 0} (peer : Ghosts P) where
 
   -- what two attributes mean by the role of the second
   pub record Roles (have want : List ℕ) (h w : PlacedNla) (r : Role) : Type 0 where
-    pub found : IsOk (meant peer r h.nla)
-    pub wanted : IsOk (meant peer r w.nla)
+    pub found : IsOk (meant layer r h.nla)
+    pub wanted : IsOk (meant layer r w.nla)
 
   pub roles : (have want : List ℕ) (h w : PlacedNla) (k : ℕ) (t : CurrentKinds) (m n : Named)
       (r : Role) →
       r ≡ role_of t k → k ≡ masked w.nla.kind → t ≡ kinds_named n → n ≡ (link_at want w).named →
       m ≡ (link_at have h).named →
       true ≡ same_kind r m n → masked h.nla.kind ≡ masked w.nla.kind →
-      IsAcceptedLink peer (link_at have h) → IsAcceptedLink peer (link_at want w) →
+      IsAcceptedLink layer (link_at have h) → IsAcceptedLink layer (link_at want w) →
       Roles have want h w r
   roles have want h w k t m n r is number kinds named had same typed hok wok =
       let role : r ≡ role_of (kinds_named n) (masked w.nla.kind) =
@@ -621,54 +621,54 @@ module _ {P : Type 0} (peer : Ghosts P) where
       ∙ ap (λ (u : CurrentKinds). role_of u (masked w.nla.kind)) kinds in
       let at_want : r ≡ role_at (kinds_named (link_at want w).named) w.nla =
       role ∙ ap (λ (q : Named). role_of (kinds_named q) (masked w.nla.kind)) named in
-      let wanted = subst (λ (x : Result (LinkInfoOf P) DecodeError). IsOk x)
-      (meaning_is peer (kinds_named (link_at want w).named) w.nla r at_want) wok.means in
+      let wanted = subst (λ (x : Result (LinkOf L) DecodeError). IsOk x)
+      (meaning_is layer (kinds_named (link_at want w).named) w.nla r at_want) wok.means in
       let other = role_is m n (masked w.nla.kind) r role (is_placed r w.nla wanted) (sym same) in
       let at_have : r ≡ role_at (kinds_named (link_at have h).named) h.nla =
       sym other ∙ ap (λ (q : Named). role_of (kinds_named q) (masked w.nla.kind)) had
       ∙ ap (λ (q : ℕ). role_of (kinds_named (link_at have h).named) q) (sym typed) in
       record {
-        found = subst (λ (x : Result (LinkInfoOf P) DecodeError). IsOk x)
-            (meaning_is peer (kinds_named (link_at have h).named) h.nla r at_have) hok.means;
+        found = subst (λ (x : Result (LinkOf L) DecodeError). IsOk x)
+            (meaning_is layer (kinds_named (link_at have h).named) h.nla r at_have) hok.means;
         wanted = wanted;
       }
 
-  payload_ok : {X : Type 0} (n : ℕ) (label : X → LinkInfoOf P) (r : Result X DecodeError) →
+  payload_ok : {X : Type 0} (n : ℕ) (label : X → LinkOf L) (r : Result X DecodeError) →
       IsOk (labelled family.LinkInfo n label (in_payload r)) → IsOk r
   payload_ok n label (Ok x) ok = refl
   payload_ok n label (Err e) ok = absurd cc
 
   pub data_ok : (tag : KindTag) (r : Role) (a : Attribute) → r ≡ role.Data tag →
-      IsOk (meant peer r a) →
-      IsOk ((data_of peer (family_of tag)).means a.value)
+      IsOk (meant layer r a) →
+      IsOk ((data_of layer (family_of tag)).means a.value)
   data_ok tag r a is ok =
       payload_ok (masked a.kind) (λ d. info.Data d)
-      ((data_of peer (family_of tag)).means a.value)
+      ((data_of layer (family_of tag)).means a.value)
       (subst (λ (q : Role). ok_meant q a) is ok)
 
   pub port_ok : (tag : PortTag) (r : Role) (a : Attribute) → r ≡ role.PortData tag →
-      IsOk (meant peer r a) →
-      IsOk ((port_data_of (port_family_of tag)).means a.value)
+      IsOk (meant layer r a) →
+      IsOk ((port_data_of layer (port_family_of tag)).means a.value)
   port_ok tag r a is ok =
       payload_ok (masked a.kind) (λ d. info.PortData d)
-      ((port_data_of (port_family_of tag)).means a.value)
+      ((port_data_of layer (port_family_of tag)).means a.value)
       (subst (λ (q : Role). ok_meant q a) is ok)
 
   -- what an attribute of such a type means, and what of it is not met, by its role under any kinds
   free_ok : (s : List ℕ) (p : PlacedNla) (k : ℕ) (t : CurrentKinds) (r : Role) → r ≡ role_of t k →
-      k ≡ masked p.nla.kind → belongs_to_a_kind k ≡ false → IsAcceptedLink peer (link_at s p) →
-      IsOk (meant peer r p.nla)
+      k ≡ masked p.nla.kind → belongs_to_a_kind k ≡ false → IsAcceptedLink layer (link_at s p) →
+      IsOk (meant layer r p.nla)
   free_ok s p k t r is number free ok =
       let u = kinds_named (link_at s p).named in
       let role : r ≡ role_at u p.nla =
       is ∙ same_role t u k free ∙ ap (λ (n : ℕ). role_of u n) number in
-      subst (λ (x : Result (LinkInfoOf P) DecodeError). IsOk x) (meaning_is peer u p.nla r role)
+      subst (λ (x : Result (LinkOf L) DecodeError). IsOk x) (meaning_is layer u p.nla r role)
       ok.means
 
   pub free_roles : (have want : List ℕ) (h w : PlacedNla) (k : ℕ) (t : CurrentKinds) (r : Role) →
       r ≡ role_of t k → k ≡ masked w.nla.kind → belongs_to_a_kind k ≡ false →
       masked h.nla.kind ≡ masked w.nla.kind →
-      IsAcceptedLink peer (link_at have h) → IsAcceptedLink peer (link_at want w) →
+      IsAcceptedLink layer (link_at have h) → IsAcceptedLink layer (link_at want w) →
       Roles have want h w r
   free_roles have want h w k t r is number free typed hok wok = record {
     found = free_ok have h k t r is (number ∙ sym typed) free hok;
@@ -676,9 +676,9 @@ module _ {P : Type 0} (peer : Ghosts P) where
   }
 
   whole_by_role : (h w : Linked) (r : Role) → IsFree r →
-      (if same_kind r h.named w.named then role_unmet peer r h.at w.at
+      (if same_kind r h.named w.named then role_unmet layer r h.at w.at
       else Some (whole_unmet w.at (Some h.at)))
-      ≡ item_unmet (row_alike (link_row peer r)) h.at w.at
+      ≡ item_unmet (row_alike (link_row layer r)) h.at w.at
   whole_by_role h w (role.Data tag) free = absurd free
   whole_by_role h w role.Xstats free = absurd free
   whole_by_role h w (role.PortData tag) free = absurd free
@@ -689,12 +689,12 @@ module _ {P : Type 0} (peer : Ghosts P) where
 
   pub free_unmet : (h w : Linked) (k : ℕ) (t : CurrentKinds) (r : Role) →
       r ≡ role_of t k → k ≡ masked w.at.nla.kind → belongs_to_a_kind k ≡ false →
-      item_unmet (row_alike (link_row peer r)) h.at w.at ≡ link_unmet peer (Some h) w
+      item_unmet (row_alike (link_row layer r)) h.at w.at ≡ link_unmet layer (Some h) w
   free_unmet h w k t r is number free =
       let u = kinds_named w.named in
       let role : r ≡ role_of_link w =
       is ∙ same_role t u k free ∙ ap (λ (n : ℕ). role_of u n) number in
       let has_none : IsFree (role_of_link w) =
       subst (λ (n : ℕ). IsFree (role_of u n)) number (free_role u k free) in
-      ap (λ (q : Role). item_unmet (row_alike (link_row peer q)) h.at w.at) role
+      ap (λ (q : Role). item_unmet (row_alike (link_row layer q)) h.at w.at) role
       ∙ sym (whole_by_role h w (role_of_link w) has_none)

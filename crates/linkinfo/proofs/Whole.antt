@@ -44,7 +44,7 @@ use Rattle.linkinfo_numbers.specs.declared.tags.KindTag.{KindTag}
 use Rattle.linkinfo_numbers.specs.declared.tags.PortTag.{PortTag}
 use Rattle.linkinfo_numbers.specs.Kind.{tag_of_name}
 use Rattle.linkinfo_numbers.specs.PortKind.{port_tag_of_name}
-use Rattle.linkinfo_table.specs.declared.peer.LinkPeer.{Ghosts}
+use Rattle.linkinfo_table.specs.Layers.{Families, Types}
 use Rattle.linkinfo_data.specs.Lawful.{AreLawful}
 use Rattle.linkinfo_table.specs.ListLaws.{
   no_memory,
@@ -56,7 +56,7 @@ use Rattle.linkinfo_table.specs.ListLaws.{
   append_law,
 }
 use Rattle.linkinfo_table.specs.Rows.{meaning_in, row_meaning}
-use Rattle.linkinfo.specs.declared.link_info.LinkInfoOf.{LinkInfoOf}
+use Rattle.linkinfo.specs.Layered.{LinkOf}
 use Rattle.linkinfo.specs.declared.role.CurrentKinds.{CurrentKinds}
 use Rattle.linkinfo.specs.declared.role.Role.{Role}
 use Rattle.linkinfo.specs.declared.role.Role.TheVariants as role
@@ -108,55 +108,55 @@ IsBytes-right : (x y : List ℕ) → IsBytes (x ++ y) → IsBytes y
 IsBytes-right [] y h = h
 IsBytes-right (b ∷ x) y h = IsBytes-right x y (λ i. h (suc i))
 
-module _ {P : Type 0} (peer : Ghosts P) (law : AreLawful peer) where
-  abbrev attribute : LinkInfoOf P → Attribute
-  attribute = link_attribute peer
+module _ {L : Types} (layer : Families L) (law : AreLawful layer) where
+  abbrev attribute : LinkOf L → Attribute
+  attribute = link_attribute layer
 
   -- at most a quarter of the bytes are headers
   pub quarter_from : (t : CurrentKinds) (s : List ℕ) →
-      4 * headers_from peer t (nla_items s) ≤ length s
+      4 * headers_from layer t (nla_items s) ≤ length s
   quarter_from t s =
-      quarter (link_meaning peer) next_kinds (link_headers peer) (link_quarter peer law) s t
+      quarter (link_meaning layer) next_kinds (link_headers layer) (link_quarter layer law) s t
 
-  pub reading_is_well : (s : List ℕ) (xs : List (LinkInfoOf P)) → IsBytes s →
-      reading peer s ≡ Ok xs → WellFormed peer xs
+  pub reading_is_well : (s : List ℕ) (xs : List (LinkOf L)) → IsBytes s →
+      reading layer s ≡ Ok xs → WellFormed layer xs
   unfolding reading
   reading_is_well s xs bytes e =
-      read_is_well (link_meaning peer) next_kinds attribute (link_well peer) kinds_after_value
-      (link_read_well peer law) (λ t a x _. link_next peer t a x) (link_well_reads peer law)
-      (link_well_attribute peer law) no_kinds s xs bytes e
+      read_is_well (link_meaning layer) next_kinds attribute (link_well layer) kinds_after_value
+      (link_read_well layer law) (λ t a x _. link_next layer t a x) (link_well_reads layer law)
+      (link_well_attribute layer law) no_kinds s xs bytes e
 
-  pub canonical_reading : (s : List ℕ) (xs : List (LinkInfoOf P)) → IsBytes s →
+  pub canonical_reading : (s : List ℕ) (xs : List (LinkOf L)) → IsBytes s →
       AllByRecursion Fits (map attribute xs) → s ≡ list_string (map attribute xs) →
-      (reading peer s ≡ Ok xs) ↔ WellFormed peer xs
+      (reading layer s ≡ Ok xs) ↔ WellFormed layer xs
   unfolding reading
   canonical_reading s xs bytes fits e =
-      canonical_law (link_meaning peer) next_kinds attribute (link_well peer) kinds_after_value
-      (link_read_well peer law) (λ t a x _. link_next peer t a x) (link_well_reads peer law)
-      (link_well_attribute peer law) no_kinds s xs bytes fits e
+      canonical_law (link_meaning layer) next_kinds attribute (link_well layer) kinds_after_value
+      (link_read_well layer law) (λ t a x _. link_next layer t a x) (link_well_reads layer law)
+      (link_well_attribute layer law) no_kinds s xs bytes fits e
 
   -- what is parsed, serialized and parsed again is unchanged
-  pub well_reading : (xs : List (LinkInfoOf P)) → WellFormed peer xs →
-      AllByRecursion Fits (map attribute xs) → reading peer (list_string (map attribute xs)) ≡ Ok xs
+  pub well_reading : (xs : List (LinkOf L)) → WellFormed layer xs →
+      AllByRecursion Fits (map attribute xs) → reading layer (list_string (map attribute xs)) ≡ Ok xs
   unfolding reading
   well_reading xs w fits =
-      well_is_read (link_meaning peer) next_kinds attribute (link_well peer) kinds_after_value
-      (link_read_well peer law) (λ t a x _. link_next peer t a x) (link_well_reads peer law)
-      (link_well_attribute peer law) no_kinds xs w fits
+      well_is_read (link_meaning layer) next_kinds attribute (link_well layer) kinds_after_value
+      (link_read_well layer law) (λ t a x _. link_next layer t a x) (link_well_reads layer law)
+      (link_well_attribute layer law) no_kinds xs w fits
 
   -- ---- no byte string has the error (Frame, 0, Memory), and no call that does not allocate
   -- returns it
 
-  pub reading_no_memory : (s : List ℕ) → reading peer s ≢ Err memory_error
+  pub reading_no_memory : (s : List ℕ) → reading layer s ≢ Err memory_error
   unfolding reading
   reading_no_memory s =
-      no_memory (link_meaning peer) next_kinds (link_no_memory peer law) no_kinds (nla_items s)
+      no_memory (link_meaning layer) next_kinds (link_no_memory layer law) no_kinds (nla_items s)
 
   pub checked_no_memory : (s : List ℕ) (r : Result (Unit {0}) DecodeError) →
-      r ≡ verdict (reading peer s) → r ≢ Err memory_error
-  checked_no_memory s r e h = go (reading peer s) (reading_no_memory s) (sym e ∙ h)
+      r ≡ verdict (reading layer s) → r ≢ Err memory_error
+  checked_no_memory s r e h = go (reading layer s) (reading_no_memory s) (sym e ∙ h)
     where
-      go : (m : Result (List (LinkInfoOf P)) DecodeError) → m ≢ Err memory_error →
+      go : (m : Result (List (LinkOf L)) DecodeError) → m ≢ Err memory_error →
           verdict m ≢ Err memory_error
       go (Ok xs) never k = absurd cc
       go (Err d) never k =
@@ -164,13 +164,13 @@ module _ {P : Type 0} (peer : Ghosts P) (law : AreLawful peer) where
 
   -- ---- equivalent byte strings
 
-  pub strings_alike : (p q : List ℕ) (xs ys : List (LinkInfoOf P)) → IsBytes p → IsBytes q →
-      reading peer p ≡ Ok xs → reading peer q ≡ Ok ys →
-      (alike_strings peer p q ≡ true) ↔ (xs ≡ ys)
+  pub strings_alike : (p q : List ℕ) (xs ys : List (LinkOf L)) → IsBytes p → IsBytes q →
+      reading layer p ≡ Ok xs → reading layer q ≡ Ok ys →
+      (alike_strings layer p q ≡ true) ↔ (xs ≡ ys)
   unfolding reading alike_strings
   strings_alike p q xs ys bp bq h k =
-      lists_alike (link_meaning peer) next_kinds (link_alike peer) (link_alike_is peer law)
-      (link_alike_after peer) no_kinds p q xs ys bp bq h k
+      lists_alike (link_meaning layer) next_kinds (link_alike layer) (link_alike_is layer law)
+      (link_alike_after layer) no_kinds p q xs ys bp bq h k
 
   abbrev ok_of : {A : Type 0} → A → Result A DecodeError
   ok_of x = Ok x
@@ -179,79 +179,79 @@ module _ {P : Type 0} (peer : Ghosts P) (law : AreLawful peer) where
   ok_same x y e = cc
 
   -- whether two accepted byte strings are equivalent is whether they mean equal lists
-  pub same_reading : (p q : List ℕ) (r : Bool) → IsBytes p → IsBytes q → IsOk (reading peer p) →
-      IsOk (reading peer q) → r ≡ alike_strings peer p q →
-      IsTrue r ↔ (reading peer p ≡ reading peer q)
-  same_reading p q r bp bq u v e = go (reading peer p) (reading peer q) refl refl u v
+  pub same_reading : (p q : List ℕ) (r : Bool) → IsBytes p → IsBytes q → IsOk (reading layer p) →
+      IsOk (reading layer q) → r ≡ alike_strings layer p q →
+      IsTrue r ↔ (reading layer p ≡ reading layer q)
+  same_reading p q r bp bq u v e = go (reading layer p) (reading layer q) refl refl u v
     where
-      go : (s t : Result (List (LinkInfoOf P)) DecodeError) → reading peer p ≡ s →
-          reading peer q ≡ t → IsOk s → IsOk t → IsTrue r ↔ (s ≡ t)
+      go : (s t : Result (List (LinkOf L)) DecodeError) → reading layer p ≡ s →
+          reading layer q ≡ t → IsOk s → IsOk t → IsTrue r ↔ (s ≡ t)
       go (Ok xs) (Ok ys) h k i j =
           let both = strings_alike p q xs ys bp bq h k in (
-            λ d. ap (λ (zs : List (LinkInfoOf P)). ok_of zs) (both.0 (sym e ∙ d)),
+            λ d. ap (λ (zs : List (LinkOf L)). ok_of zs) (both.0 (sym e ∙ d)),
             λ d. e ∙ both.1 (ok_same xs ys d),
           )
       go (Ok xs) (Err d) h k i j = absurd cc
       go (Err d) t h k i j = absurd cc
 
   -- if both lists fit, equivalent byte strings are those with one canonical encoding
-  pub same_canonical : (p q : List ℕ) (xs ys : List (LinkInfoOf P)) → IsBytes p → IsBytes q →
-      reading peer p ≡ Ok xs → reading peer q ≡ Ok ys →
+  pub same_canonical : (p q : List ℕ) (xs ys : List (LinkOf L)) → IsBytes p → IsBytes q →
+      reading layer p ≡ Ok xs → reading layer q ≡ Ok ys →
       AllByRecursion Fits (map attribute xs) → AllByRecursion Fits (map attribute ys) →
-      (alike_strings peer p q ≡ true)
+      (alike_strings layer p q ≡ true)
       ↔ (list_string (map attribute xs) ≡ list_string (map attribute ys))
   same_canonical p q xs ys bp bq h k f g =
       let both = strings_alike p q xs ys bp bq h k in
       let rx = well_reading xs (reading_is_well p xs bp h) f in
       let ry = well_reading ys (reading_is_well q ys bq k) g in (
-        λ d. ap (λ (zs : List (LinkInfoOf P)). list_string (map attribute zs)) (both.0 d),
-        λ d. both.1 (ok_same xs ys (sym rx ∙ ap (reading peer) d ∙ ry)),
+        λ d. ap (λ (zs : List (LinkOf L)). list_string (map attribute zs)) (both.0 d),
+        λ d. both.1 (ok_same xs ys (sym rx ∙ ap (reading layer) d ∙ ry)),
       )
 
   -- ---- the result of a comparison
 
   pub same_equal : (p q : List ℕ) (r : Result Bool DecodeError) → IsBytes p → IsBytes q →
-      r ≡ same_answer (reading peer p) (reading peer q) (alike_strings peer p q) →
-      IfOk r (λ same. IsTrue same ↔ (reading peer p ≡ reading peer q))
+      r ≡ same_answer (reading layer p) (reading layer q) (alike_strings layer p q) →
+      IfOk r (λ same. IsTrue same ↔ (reading layer p ≡ reading layer q))
   same_equal p q r bp bq e =
       subst (λ (z : Result Bool DecodeError).
-      IfOk z (λ same. IsTrue same ↔ (reading peer p ≡ reading peer q))) (sym e)
-      (go (reading peer p) (reading peer q) refl refl)
+      IfOk z (λ same. IsTrue same ↔ (reading layer p ≡ reading layer q))) (sym e)
+      (go (reading layer p) (reading layer q) refl refl)
     where
-      go : (s t : Result (List (LinkInfoOf P)) DecodeError) → reading peer p ≡ s →
-          reading peer q ≡ t →
-          IfOk (same_answer s t (alike_strings peer p q))
-          (λ same. IsTrue same ↔ (reading peer p ≡ reading peer q))
+      go : (s t : Result (List (LinkOf L)) DecodeError) → reading layer p ≡ s →
+          reading layer q ≡ t →
+          IfOk (same_answer s t (alike_strings layer p q))
+          (λ same. IsTrue same ↔ (reading layer p ≡ reading layer q))
       go (Ok xs) (Ok ys) h k =
-          same_reading p q (alike_strings peer p q) bp bq
-          (subst (λ (z : Result (List (LinkInfoOf P)) DecodeError). IsOk z) (sym h) refl)
-          (subst (λ (z : Result (List (LinkInfoOf P)) DecodeError). IsOk z) (sym k) refl) refl
+          same_reading p q (alike_strings layer p q) bp bq
+          (subst (λ (z : Result (List (LinkOf L)) DecodeError). IsOk z) (sym h) refl)
+          (subst (λ (z : Result (List (LinkOf L)) DecodeError). IsOk z) (sym k) refl) refl
       go (Ok xs) (Err d) h k = tt
       go (Err d) t h k = tt
 
   -- equal byte strings, of which the first has this verdict
   pub same_of_equal : (p q : List ℕ) → IsBytes p → IsBytes q → p ≡ q →
-      Ok tt ≡ verdict (reading peer p) →
-      Ok true ≡ same_at_answer (reading peer p) (reading peer q) (alike_strings peer p q)
-  same_of_equal p q bp bq e accepted = go (reading peer p) (reading peer q) refl refl accepted
+      Ok tt ≡ verdict (reading layer p) →
+      Ok true ≡ same_at_answer (reading layer p) (reading layer q) (alike_strings layer p q)
+  same_of_equal p q bp bq e accepted = go (reading layer p) (reading layer q) refl refl accepted
     where
-      go : (s t : Result (List (LinkInfoOf P)) DecodeError) → reading peer p ≡ s →
-          reading peer q ≡ t → Ok tt ≡ verdict s →
-          Ok true ≡ same_at_answer s t (alike_strings peer p q)
+      go : (s t : Result (List (LinkOf L)) DecodeError) → reading layer p ≡ s →
+          reading layer q ≡ t → Ok tt ≡ verdict s →
+          Ok true ≡ same_at_answer s t (alike_strings layer p q)
       go (Ok xs) (Ok ys) h k v =
-          let lists : xs ≡ ys = ok_same xs ys (sym h ∙ ap (reading peer) e ∙ k) in
+          let lists : xs ≡ ys = ok_same xs ys (sym h ∙ ap (reading layer) e ∙ k) in
           ap (λ (b : Bool). let r : Result Bool ErrorIn = Ok b in r)
           (sym ((strings_alike p q xs ys bp bq h k).1 lists))
-      go (Ok xs) (Err d) h k v = absurd (apart (sym h ∙ ap (reading peer) e ∙ k))
+      go (Ok xs) (Err d) h k v = absurd (apart (sym h ∙ ap (reading layer) e ∙ k))
         where
           apart : ok_of xs ≡ Err d → ⊥
           apart z = cc
       go (Err d) t h k v = absurd cc
 
-  pub same_answered : (p q : List ℕ) (r : Result Bool DecodeError) (xs ys : List (LinkInfoOf P)) →
+  pub same_answered : (p q : List ℕ) (r : Result Bool DecodeError) (xs ys : List (LinkOf L)) →
       IsBytes p → IsBytes q →
-      r ≡ same_answer (reading peer p) (reading peer q) (alike_strings peer p q) →
-      reading peer p ≡ Ok xs → reading peer q ≡ Ok ys →
+      r ≡ same_answer (reading layer p) (reading layer q) (alike_strings layer p q) →
+      reading layer p ≡ Ok xs → reading layer q ≡ Ok ys →
       AllByRecursion Fits (map attribute xs) → AllByRecursion Fits (map attribute ys) →
       IfOk r
       (λ same. IsTrue same ↔ (list_string (map attribute xs) ≡ list_string (map attribute ys)))
@@ -260,13 +260,13 @@ module _ {P : Type 0} (peer : Ghosts P) (law : AreLawful peer) where
       IfOk z
       (λ same. IsTrue same ↔ (list_string (map attribute xs) ≡ list_string (map attribute ys))))
       (sym (e
-      ∙ ap (λ (s : Result (List (LinkInfoOf P)) DecodeError).
-      same_answer s (reading peer q) (alike_strings peer p q)) h
-      ∙ ap (λ (t : Result (List (LinkInfoOf P)) DecodeError).
-      same_answer (ok_of xs) t (alike_strings peer p q)) k))
+      ∙ ap (λ (s : Result (List (LinkOf L)) DecodeError).
+      same_answer s (reading layer q) (alike_strings layer p q)) h
+      ∙ ap (λ (t : Result (List (LinkOf L)) DecodeError).
+      same_answer (ok_of xs) t (alike_strings layer p q)) k))
       (same_canonical p q xs ys bp bq h k f g)
 
-  list_same : (xs ys : List (LinkInfoOf P)) → ok_of xs ≡ ok_of ys → xs ≡ ys
+  list_same : (xs ys : List (LinkOf L)) → ok_of xs ≡ ok_of ys → xs ≡ ys
   list_same xs ys e = cc
 
   same_truth : (a b : Bool) → (a ≡ true → b ≡ true) → (b ≡ true → a ≡ true) → a ≡ b
@@ -276,30 +276,30 @@ module _ {P : Type 0} (peer : Ghosts P) (law : AreLawful peer) where
   same_truth false false f g = refl
 
   -- if both are accepted, the result is that of `==` on the two lists
-  pub same_values : (p q : List ℕ) (r : Result Bool DecodeError) (xs ys : List (LinkInfoOf P))
+  pub same_values : (p q : List ℕ) (r : Result Bool DecodeError) (xs ys : List (LinkOf L))
       (b : Bool) → IsBytes p → IsBytes q →
-      r ≡ same_answer (reading peer p) (reading peer q) (alike_strings peer p q) →
-      reading peer p ≡ Ok xs → reading peer q ≡ Ok ys → Decides b (xs ≡ ys) → r ≡ Ok b
+      r ≡ same_answer (reading layer p) (reading layer q) (alike_strings layer p q) →
+      reading layer p ≡ Ok xs → reading layer q ≡ Ok ys → Decides b (xs ≡ ys) → r ≡ Ok b
   same_values p q r xs ys b bp bq e h k d =
-      let is : r ≡ Ok (alike_strings peer p q) =
+      let is : r ≡ Ok (alike_strings layer p q) =
       e
-      ∙ ap (λ (s : Result (List (LinkInfoOf P)) DecodeError).
-      same_answer s (reading peer q) (alike_strings peer p q)) h
-      ∙ ap (λ (t : Result (List (LinkInfoOf P)) DecodeError).
-      same_answer (ok_of xs) t (alike_strings peer p q)) k in
-      let equal : IsTrue (alike_strings peer p q) ↔ (reading peer p ≡ reading peer q) =
+      ∙ ap (λ (s : Result (List (LinkOf L)) DecodeError).
+      same_answer s (reading layer q) (alike_strings layer p q)) h
+      ∙ ap (λ (t : Result (List (LinkOf L)) DecodeError).
+      same_answer (ok_of xs) t (alike_strings layer p q)) k in
+      let equal : IsTrue (alike_strings layer p q) ↔ (reading layer p ≡ reading layer q) =
       subst (λ (z : Result Bool DecodeError).
-      IfOk z (λ same. IsTrue same ↔ (reading peer p ≡ reading peer q))) is
+      IfOk z (λ same. IsTrue same ↔ (reading layer p ≡ reading layer q))) is
       (same_equal p q r bp bq e) in
       is
       ∙ ap (λ (z : Bool). let s : Result Bool DecodeError = Ok z in s)
-      (same_truth (alike_strings peer p q) b (λ t. d.1 (list_same xs ys (sym h ∙ equal.0 t ∙ k)))
+      (same_truth (alike_strings layer p q) b (λ t. d.1 (list_same xs ys (sym h ∙ equal.0 t ∙ k)))
       (λ t. equal.1 (h ∙ ap ok_of (d.0 t) ∙ sym k)))
 
   -- ---- one byte string after another
 
-  abbrev meant : Role → Attribute → Result (LinkInfoOf P) DecodeError
-  meant r a = row_meaning family.LinkInfo link_other (link_row peer r) a
+  abbrev meant : Role → Attribute → Result (LinkOf L) DecodeError
+  meant r a = row_meaning family.LinkInfo link_other (link_row layer r) a
 
   -- a current kind stays what it is; if there is none, there may be one
   abbrev kept_in : {A : Type 0} → Option A → Option A → Type 0
@@ -310,28 +310,28 @@ module _ {P : Type 0} (peer : Ghosts P) (law : AreLawful peer) where
     kind : kept_in t.kind u.kind
     port : kept_in t.port u.port
 
-  data_more : (o q : Option KindTag) (a : Attribute) (x : LinkInfoOf P) → kept_in o q →
+  data_more : (o q : Option KindTag) (a : Attribute) (x : LinkOf L) → kept_in o q →
       meant (role_under o (λ tag. role.Data tag)) a ≡ Ok x →
       meant (role_under q (λ tag. role.Data tag)) a ≡ Ok x
   data_more None q a x h e = absurd cc
   data_more (Some g) q a x h e =
       ap (λ (r : Option KindTag). meant (role_under r (λ tag. role.Data tag)) a) h ∙ e
 
-  xstats_more : (o q : Option KindTag) (a : Attribute) (x : LinkInfoOf P) → kept_in o q →
+  xstats_more : (o q : Option KindTag) (a : Attribute) (x : LinkOf L) → kept_in o q →
       meant (role_under o (λ _. role.Xstats)) a ≡ Ok x →
       meant (role_under q (λ _. role.Xstats)) a ≡ Ok x
   xstats_more None q a x h e = absurd cc
   xstats_more (Some g) q a x h e =
       ap (λ (r : Option KindTag). meant (role_under r (λ _. role.Xstats)) a) h ∙ e
 
-  port_more : (o q : Option PortTag) (a : Attribute) (x : LinkInfoOf P) → kept_in o q →
+  port_more : (o q : Option PortTag) (a : Attribute) (x : LinkOf L) → kept_in o q →
       meant (role_under o (λ tag. role.PortData tag)) a ≡ Ok x →
       meant (role_under q (λ tag. role.PortData tag)) a ≡ Ok x
   port_more None q a x h e = absurd cc
   port_more (Some g) q a x h e =
       ap (λ (r : Option PortTag). meant (role_under r (λ tag. role.PortData tag)) a) h ∙ e
 
-  reads_more : (n : ℕ) (t u : CurrentKinds) (a : Attribute) (x : LinkInfoOf P) → Less t u →
+  reads_more : (n : ℕ) (t u : CurrentKinds) (a : Attribute) (x : LinkOf L) → Less t u →
       meant (role_of t n) a ≡ Ok x → meant (role_of u n) a ≡ Ok x
   unfolding role_of
   reads_more zero t u a x less e = e
@@ -346,8 +346,8 @@ module _ {P : Type 0} (peer : Ghosts P) (law : AreLawful peer) where
       ∙ sym (ap (λ (r : Role). meant r a) (unknown_from_six t n))
       ∙ e
 
-  less_reads : (t u : CurrentKinds) (a : Attribute) (x : LinkInfoOf P) → Less t u →
-      link_meaning peer t a ≡ Ok x → link_meaning peer u a ≡ Ok x
+  less_reads : (t u : CurrentKinds) (a : Attribute) (x : LinkOf L) → Less t u →
+      link_meaning layer t a ≡ Ok x → link_meaning layer u a ≡ Ok x
   unfolding meaning_in
   less_reads t u a x less e = reads_more (masked a.kind) t u a x less e
 
@@ -422,12 +422,12 @@ module _ {P : Type 0} (peer : Ghosts P) (law : AreLawful peer) where
   unfolding next_kinds
   less_after t u a less = after_more (masked a.kind) t u a less
 
-  pub appended_reading : (s a b : List ℕ) (xs ys : List (LinkInfoOf P)) → IsBytes s →
-      length a % 4 ≡ 0 → s ≡ a ++ b → reading peer a ≡ Ok xs → reading peer b ≡ Ok ys →
-      reading peer s ≡ Ok (xs ++ ys)
+  pub appended_reading : (s a b : List ℕ) (xs ys : List (LinkOf L)) → IsBytes s →
+      length a % 4 ≡ 0 → s ≡ a ++ b → reading layer a ≡ Ok xs → reading layer b ≡ Ok ys →
+      reading layer s ≡ Ok (xs ++ ys)
   unfolding reading
   appended_reading s a b xs ys bytes four e h k =
       let both : IsBytes (a ++ b) = subst IsBytes e bytes in
-      append_law (link_meaning peer) next_kinds Less less_reads less_after no_kinds s a b xs
+      append_law (link_meaning layer) next_kinds Less less_reads less_after no_kinds s a b xs
       ys (λ _. record { kind = tt; port = tt }) (IsBytes-left a b both)
       (IsBytes-right a b both) four e h k

@@ -42,12 +42,12 @@ use Rattle.nla_frame.specs.Canonical.{attribute_for, attributes_for}
 use Rattle.nla_frame.specs.declared.error.DecodeError.{DecodeError}
 use Rattle.nla_frame.specs.NlaItems.{nla_items}
 use Rattle.nla_frame.proofs.Emitting.{length-list_string-cons, whole, Written}
-use Rattle.linkinfo_table.specs.declared.peer.LinkPeer.{Ghosts}
+use Rattle.linkinfo_table.specs.Layers.{Families, Types}
 use Rattle.linkinfo_data.specs.Lawful.{AreLawful}
 use Rattle.linkinfo_table.specs.Lists.{IsTotalWith}
 use Rattle.linkinfo_table.proofs.Measuring.{Remains, measured_after, remains_none}
 use Rattle.linkinfo_table.proofs.Writing.{takes, with_first, write_first}
-use Rattle.linkinfo.specs.declared.link_info.LinkInfoOf.{LinkInfoOf}
+use Rattle.linkinfo.specs.Layered.{LinkOf}
 use Rattle.linkinfo.specs.declared.role.Role.{Role}
 use Rattle.linkinfo.specs.Items.{link_attribute, written_attribute}
 use Rattle.linkinfo.specs.Strings.{values_from}
@@ -144,40 +144,40 @@ measured_more total all now rest a so_far e =
       length-list_string-cons a rest,
     )
 
-module _ {P : Type 0} (peer : Ghosts P) where
+module _ {L : Types} (layer : Families L) where
   -- the canonical attributes of those that a walk has not visited
   abbrev pub left_of : LinkWalk → List Attribute
-  left_of w = attributes_for (link_attribute peer) (values_from peer w.kinds (nla_items (left w)))
+  left_of w = attributes_for (link_attribute layer) (values_from layer w.kinds (nla_items (left w)))
 
   -- a walk over an accepted byte string meets no error
   pub walk_goes_on : (s t : LinkWalk) (r : Result (Attribute × Role) DecodeError) →
-      Advances s (Some r) t → IsOk (values_from peer s.kinds (nla_items (left s))) → IsOk r
+      Advances s (Some r) t → IsOk (values_from layer s.kinds (nla_items (left s))) → IsOk r
   walk_goes_on s t (Ok x) h ok = refl
-  walk_goes_on s t (Err e) h ok = absurd (not_ok _ e (stopped peer s e t h).values ok)
+  walk_goes_on s t (Err e) h ok = absurd (not_ok _ e (stopped layer s e t h).values ok)
 
   -- a step of a walk, as what is written
   pub record Writes (s t : LinkWalk) (a : Attribute) (r : Role) : Type 0 where
-    pub accepted : IsOk (meant peer r a)
-    pub others : IsOk (values_from peer t.kinds (nla_items (left t)))
-    pub values : values_from peer s.kinds (nla_items (left s))
-        ≡ with_first (link_attribute peer) (meant peer r a)
-        (values_from peer t.kinds (nla_items (left t)))
-    pub written : attribute_for (link_attribute peer) (meant peer r a) ≡ written_attribute peer r a
-    pub whole : left_of s ≡ written_attribute peer r a ∷ left_of t
+    pub accepted : IsOk (meant layer r a)
+    pub others : IsOk (values_from layer t.kinds (nla_items (left t)))
+    pub values : values_from layer s.kinds (nla_items (left s))
+        ≡ with_first (link_attribute layer) (meant layer r a)
+        (values_from layer t.kinds (nla_items (left t)))
+    pub written : attribute_for (link_attribute layer) (meant layer r a) ≡ written_attribute layer r a
+    pub whole : left_of s ≡ written_attribute layer r a ∷ left_of t
     pub shorter : length (left t) < length (left s)
 
-  pub walk_writes : AreLawful peer →
+  pub walk_writes : AreLawful layer →
       (s t : LinkWalk) (r : Result (Attribute × Role) DecodeError) (x : Attribute × Role) →
       r ≡ Ok x → Advances s (Some r) t →
-      IsOk (values_from peer s.kinds (nla_items (left s))) → Writes s t x.0 x.1
+      IsOk (values_from layer s.kinds (nla_items (left s))) → Writes s t x.0 x.1
   walk_writes law s t r x e h ok =
       let step =
-      entered peer s x.0 x.1 t
+      entered layer s x.0 x.1 t
       (subst (λ (q : Result (Attribute × Role) DecodeError). Advances s (Some q) t) e h) in
       let took =
-      takes (link_attribute peer) (values_from peer s.kinds (nla_items (left s)))
-      (values_from peer t.kinds (nla_items (left t))) (meant peer x.1 x.0) step.values ok in
-      let is = role_written peer law x.1 x.0 took.first in
+      takes (link_attribute layer) (values_from layer s.kinds (nla_items (left s)))
+      (values_from layer t.kinds (nla_items (left t))) (meant layer x.1 x.0) step.values ok in
+      let is = role_written layer law x.1 x.0 took.first in
       record {
         accepted = took.first;
         others = took.others;
@@ -188,50 +188,50 @@ module _ {P : Type 0} (peer : Ghosts P) where
       }
 
   -- one more attribute measured
-  pub measured_step : AreLawful peer → (s t : LinkWalk) (a : Attribute) (r : Role)
-      (total len next : Option ℕ) (whole : List Attribute) → Entered peer s a r t →
-      (IsOk (values_from peer s.kinds (nla_items (left s))) → Remains total (left_of s) whole) →
-      Ok tt ≡ verdict (meant peer r a) →
-      SomeIff len (Fits (written_attribute peer r a)) (length (written_attribute peer r a).value) →
+  pub measured_step : AreLawful layer → (s t : LinkWalk) (a : Attribute) (r : Role)
+      (total len next : Option ℕ) (whole : List Attribute) → Entered layer s a r t →
+      (IsOk (values_from layer s.kinds (nla_items (left s))) → Remains total (left_of s) whole) →
+      Ok tt ≡ verdict (meant layer r a) →
+      SomeIff len (Fits (written_attribute layer r a)) (length (written_attribute layer r a).value) →
       IsTotalWith total len next →
-      IsOk (values_from peer t.kinds (nla_items (left t))) → Remains next (left_of t) whole
+      IsOk (values_from layer t.kinds (nla_items (left t))) → Remains next (left_of t) whole
   measured_step law s t a r total len next whole step before accepted size sum ok =
-      let is = role_written peer law r a (verdict_ok (meant peer r a) accepted) in
-      measured_after (link_attribute peer) (values_from peer s.kinds (nla_items (left s)))
-      (values_from peer t.kinds (nla_items (left t))) (meant peer r a) total len next whole before
+      let is = role_written layer law r a (verdict_ok (meant layer r a) accepted) in
+      measured_after (link_attribute layer) (values_from layer s.kinds (nla_items (left s)))
+      (values_from layer t.kinds (nla_items (left t))) (meant layer r a) total len next whole before
       step.values accepted
       (subst (λ (w : Attribute). SomeIff len (Fits w) (length w.value)) (sym is) size) sum ok
 
   -- at the end of a walk the total is that of the list
   pub measured_end : (s : LinkWalk) (total : Option ℕ)
-      (all : Result (List (LinkInfoOf P)) DecodeError) → nla_items (left s) ≡ [] →
-      verdict (values_from peer s.kinds (nla_items (left s))) ≡ verdict all →
-      (IsOk (values_from peer s.kinds (nla_items (left s))) →
-      Remains total (left_of s) (attributes_for (link_attribute peer) all)) →
+      (all : Result (List (LinkOf L)) DecodeError) → nla_items (left s) ≡ [] →
+      verdict (values_from layer s.kinds (nla_items (left s))) ≡ verdict all →
+      (IsOk (values_from layer s.kinds (nla_items (left s))) →
+      Remains total (left_of s) (attributes_for (link_attribute layer) all)) →
       (verdict all ≡ Ok tt)
-      × SomeIff total (ListFits (attributes_for (link_attribute peer) all))
-      (length (list_string (attributes_for (link_attribute peer) all)))
+      × SomeIff total (ListFits (attributes_for (link_attribute layer) all))
+      (length (list_string (attributes_for (link_attribute layer) all)))
   measured_end s total all end answer so_far =
       let last = rw end at so_far in (
         sym (rw end at answer),
-        remains_none total (attributes_for (link_attribute peer) all) (last refl),
+        remains_none total (attributes_for (link_attribute layer) all) (last refl),
       )
 
   -- one more attribute written at an offset: `chunk` is what the buffer holds from that offset on
   pub write_item : (whole : List ℕ) (s t : LinkWalk) (a : Attribute) (r : Role) (at : ℕ)
       (old buffer : List ℕ) → Writes s t a r →
       Written whole (list_string (left_of s)) at old buffer →
-      IsOk (values_from peer s.kinds (nla_items (left s))) → length whole
+      IsOk (values_from layer s.kinds (nla_items (left s))) → length whole
       ≤ length buffer → (n : ℕ) →
-      n ≡ buffer_len_of (written_attribute peer r a) → (k : ℕ) → k ≡ length buffer - at →
+      n ≡ buffer_len_of (written_attribute layer r a) → (k : ℕ) → k ≡ length buffer - at →
       (chunk : List ℕ) →
-      chunk ≡ canonical_string (written_attribute peer r a)
-      ++ drop (buffer_len_of (written_attribute peer r a)) (take k (drop at buffer)) →
+      chunk ≡ canonical_string (written_attribute layer r a)
+      ++ drop (buffer_len_of (written_attribute layer r a)) (take k (drop at buffer)) →
       Written whole (list_string (left_of t)) (at + n) old (put_mid at k buffer chunk)
   write_item whole s t a r at old buffer step before ok room n size k wide chunk new =
       let is = sym step.written in
-      write_first (link_attribute peer) whole (values_from peer s.kinds (nla_items (left s)))
-      (values_from peer t.kinds (nla_items (left t))) (meant peer r a)
+      write_first (link_attribute layer) whole (values_from layer s.kinds (nla_items (left s)))
+      (values_from layer t.kinds (nla_items (left t))) (meant layer r a)
       at old buffer before step.values ok
       room n (size ∙ ap (λ (z : Attribute). buffer_len_of z) is) k wide chunk
       (new
@@ -245,4 +245,4 @@ module _ {P : Type 0} (peer : Ghosts P) where
       let end =
       subst (λ (q : Option (Result (Attribute × Role) DecodeError)). Advances s q t) e h in
       ap (λ (ps : List (Result Attribute ℕ)).
-      attributes_for (link_attribute peer) (values_from peer s.kinds ps)) end.1
+      attributes_for (link_attribute layer) (values_from layer s.kinds ps)) end.1

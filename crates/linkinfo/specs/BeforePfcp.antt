@@ -20,7 +20,7 @@ use Rattle.nla_frame.specs.declared.error.Family.TheVariants as family
 use Rattle.linkinfo_numbers.specs.declared.tags.KindTag.{KindTag}
 use Rattle.linkinfo_numbers.specs.declared.tags.KindTag.TheVariants as tag
 use Rattle.linkinfo_data.specs.Data.{family_of}
-use Rattle.linkinfo_table.specs.declared.peer.LinkPeer.{Ghosts}
+use Rattle.linkinfo_table.specs.Layers.{Families, Types}
 use Rattle.linkinfo_data.specs.declared.data.DataFamily.{DataFamily}
 use Rattle.linkinfo_data.specs.declared.data.DataFamily.TheVariants as of
 use Rattle.linkinfo_table.specs.Lists.{values_under, alike_under}
@@ -28,7 +28,7 @@ use Rattle.linkinfo_table.specs.Rows.{Row, row_alike, row_meaning}
 use Rattle.linkinfo.specs.Items.{data_row, link_other, link_row}
 use Rattle.linkinfo.specs.Roles.{no_kinds, role_at}
 use Rattle.linkinfo.specs.Strings.{next_kinds}
-use Rattle.linkinfo.specs.declared.link_info.LinkInfoOf.{LinkInfoOf}
+use Rattle.linkinfo.specs.Layered.{LinkOf}
 use Rattle.linkinfo.specs.declared.role.CurrentKinds.{CurrentKinds}
 use Rattle.linkinfo.specs.declared.role.Role.{Role}
 use Rattle.linkinfo.specs.declared.role.Role.TheVariants as role
@@ -42,27 +42,27 @@ abbrev pub family_before : KindTag → DataFamily
 family_before t = if is_pfcp t then of.Raw else family_of t
 
 -- the rows of the list, of which those of data alone differ
-abbrev pub row_before : {P : Type 0} → Ghosts P → Role → Row (LinkInfoOf P)
-row_before peer (role.Data t) = data_row peer (family_before t)
-row_before peer r = link_row peer r
+abbrev pub row_before : {L : Types} → Families L → Role → Row (LinkOf L)
+row_before layer (role.Data t) = data_row layer (family_before t)
+row_before layer r = link_row layer r
 
-abbrev pub meaning_before : {P : Type 0} → Ghosts P → CurrentKinds → Attribute →
-    Result (LinkInfoOf P) DecodeError
-meaning_before peer t a =
-    row_meaning family.LinkInfo link_other (row_before peer (role_at t a)) a
+abbrev pub meaning_before : {L : Types} → Families L → CurrentKinds → Attribute →
+    Result (LinkOf L) DecodeError
+meaning_before layer t a =
+    row_meaning family.LinkInfo link_other (row_before layer (role_at t a)) a
 
-abbrev pub alike_before : {P : Type 0} → Ghosts P → CurrentKinds → Attribute → Attribute → Bool
-alike_before peer t a b = row_alike (row_before peer (role_at t a)) a b
+abbrev pub alike_before : {L : Types} → Families L → CurrentKinds → Attribute → Attribute → Bool
+alike_before layer t a b = row_alike (row_before layer (role_at t a)) a b
 
 -- what a whole byte string meant, and whether two were equivalent
-unfoldable pub reading_before : {P : Type 0} → Ghosts P → List ℕ →
-    Result (List (LinkInfoOf P)) DecodeError
-reading_before peer s =
-    values_under (meaning_before peer) next_kinds no_kinds (nla_items s)
+unfoldable pub reading_before : {L : Types} → Families L → List ℕ →
+    Result (List (LinkOf L)) DecodeError
+reading_before layer s =
+    values_under (meaning_before layer) next_kinds no_kinds (nla_items s)
 
-unfoldable pub alike_strings_before : {P : Type 0} → Ghosts P → List ℕ → List ℕ → Bool
-alike_strings_before peer a b =
-    alike_under (alike_before peer) next_kinds no_kinds (nla_items a) (nla_items b)
+unfoldable pub alike_strings_before : {L : Types} → Families L → List ℕ → List ℕ → Bool
+alike_strings_before layer a b =
+    alike_under (alike_before layer) next_kinds no_kinds (nla_items a) (nla_items b)
 
 -- data under `pfcp`
 abbrev pub is_pfcp_data : Role → Bool

@@ -14,7 +14,7 @@ use Rattle.linkinfo_data.specs.Difference.{
   pair_difference,
 }
 use Rattle.linkinfo_data.specs.Difference.{pairs_difference}
-use Rattle.linkinfo_table.specs.declared.peer.LinkPeer.{Ghosts}
+use Rattle.linkinfo_table.specs.Layers.{Families, Types}
 use Rattle.linkinfo_data.specs.Listing.{Listing}
 use Rattle.linkinfo_data.specs.Payloads.{Payload}
 use Rattle.linkinfo_data.specs.PortData.{port_data_of, port_family_of}
@@ -40,26 +40,26 @@ abbrev pub data_difference : {X : Type 0} → Payload X → PlacedNla → Placed
 data_difference payload p q = payload_difference payload.listing payload.alike p q
 
 -- the difference of two attributes of one type, by the role of the first
-abbrev pub role_difference : {P : Type 0} → Ghosts P → Role → PlacedNla → PlacedNla →
+abbrev pub role_difference : {L : Types} → Families L → Role → PlacedNla → PlacedNla →
     Option Difference
-role_difference peer (role.Data tag) p q =
-    data_difference (data_of peer (family_of tag)) p q
-role_difference peer (role.PortData tag) p q =
-    data_difference (port_data_of (port_family_of tag)) p q
-role_difference peer r p q =
-    pair_difference family.LinkInfo (row_alike (link_row peer r) p.nla q.nla) p q
+role_difference layer (role.Data tag) p q =
+    data_difference (data_of layer (family_of tag)) p q
+role_difference layer (role.PortData tag) p q =
+    data_difference (port_data_of layer (port_family_of tag)) p q
+role_difference layer r p q =
+    pair_difference family.LinkInfo (row_alike (link_row layer r) p.nla q.nla) p q
 
 -- the difference of two attributes, under the current kinds before the first
-abbrev pub link_difference : {P : Type 0} → Ghosts P → CurrentKinds → PlacedNla → PlacedNla →
+abbrev pub link_difference : {L : Types} → Families L → CurrentKinds → PlacedNla → PlacedNla →
     Option Difference
-link_difference peer t p q =
+link_difference layer t p q =
     if masked q.nla.kind == masked p.nla.kind
-    then role_difference peer (role_at t p.nla) p q
+    then role_difference layer (role_at t p.nla) p q
     else Some (differ family.LinkInfo p q)
 
 -- the difference of two byte strings: that of the first pair that has one, or the end of one of
 -- them before the other
-abbrev pub strings_difference : {P : Type 0} → Ghosts P → List ℕ → List ℕ → Option Difference
-strings_difference peer a b =
-    pairs_difference family.LinkInfo (link_difference peer) next_kinds no_kinds
+abbrev pub strings_difference : {L : Types} → Families L → List ℕ → List ℕ → Option Difference
+strings_difference layer a b =
+    pairs_difference family.LinkInfo (link_difference layer) next_kinds no_kinds
     (attributes_of a) (attributes_of b)

@@ -4,7 +4,7 @@ pub mod Comparing
 pub mod Conditions
 pub mod Difference
 pub mod Items
-pub mod LinkEqual
+pub mod Layered
 pub mod Met
 pub mod Placed
 pub mod Roles

@@ -8,7 +8,7 @@ use Rattle.nla_frame.specs.Payload.{stripped}
 use Rattle.linkinfo_table.specs.Last.{attributes_of}
 use Rattle.linkinfo_table.specs.Rows.{row_alike}
 use Rattle.linkinfo_data.specs.Data.{data_of, family_of}
-use Rattle.linkinfo_table.specs.declared.peer.LinkPeer.{Ghosts}
+use Rattle.linkinfo_table.specs.Layers.{Families, Types}
 use Rattle.linkinfo_data.specs.Listing.{Listing}
 use Rattle.linkinfo_data.specs.Payloads.{Payload}
 use Rattle.linkinfo_data.specs.PortData.{port_data_of, port_family_of}
@@ -82,22 +82,22 @@ abbrev pub DataMeets : {X : Type 0} → Payload X → Attribute → Attribute �
 DataMeets payload have want = PayloadMeets payload.listing payload.alike have want
 
 -- an attribute of the list, by its role
-abbrev pub RoleMeets : {P : Type 0} → Ghosts P → Role → Attribute → Attribute → Type 0
-RoleMeets peer (role.Data tag) have want =
-    DataMeets (data_of peer (family_of tag)) have want
-RoleMeets peer (role.PortData tag) have want =
-    DataMeets (port_data_of (port_family_of tag)) have want
-RoleMeets peer r have want = IsTrue (meets (row_alike (link_row peer r)) have want)
+abbrev pub RoleMeets : {L : Types} → Families L → Role → Attribute → Attribute → Type 0
+RoleMeets layer (role.Data tag) have want =
+    DataMeets (data_of layer (family_of tag)) have want
+RoleMeets layer (role.PortData tag) have want =
+    DataMeets (port_data_of layer (port_family_of tag)) have want
+RoleMeets layer r have want = IsTrue (meets (row_alike (link_row layer r)) have want)
 
 -- .. under the same kind
-pub record ItemMeets {P : Type 0} (peer : Ghosts P) (have want : Item) : Type 0 where
+pub record ItemMeets {L : Types} (layer : Families L) (have want : Item) : Type 0 where
   pub kind : IsTrue (same_kind (role_of_item want) have.named want.named)
-  pub payload : RoleMeets peer (role_of_item want) have.nla want.nla
+  pub payload : RoleMeets layer (role_of_item want) have.nla want.nla
 
 -- a list meets another one
-abbrev pub StringMeets : {P : Type 0} → Ghosts P → List ℕ → List ℕ → Type 0
-StringMeets peer have want =
-    LastsMeet type_of_item (ItemMeets peer) (items_of have) (items_of want)
+abbrev pub StringMeets : {L : Types} → Families L → List ℕ → List ℕ → Type 0
+StringMeets layer have want =
+    LastsMeet type_of_item (ItemMeets layer) (items_of have) (items_of want)
 
 -- ---- lists with more attributes
 
@@ -154,38 +154,38 @@ abbrev pub role_in_list : List Attribute → Attribute → Role
 role_in_list list a = role_of (kinds_named (names_in_list list)) (type_of a)
 
 -- data that is a list of attributes of a family
-abbrev pub is_list : {P : Type 0} → Ghosts P → Role → Bool
-is_list peer (role.Data tag) = is_some (data_of peer (family_of tag)).listing
-is_list peer (role.PortData tag) = is_some (port_data_of (port_family_of tag)).listing
-is_list peer _ = false
+abbrev pub is_list : {L : Types} → Families L → Role → Bool
+is_list layer (role.Data tag) = is_some (data_of layer (family_of tag)).listing
+is_list layer (role.PortData tag) = is_some (port_data_of layer (port_family_of tag)).listing
+is_list layer _ = false
 
 -- the payloads are equal, or data that is a list is in another order
-abbrev pub IsLikeIn : {P : Type 0} → Ghosts P → List Attribute → Attribute → Attribute → Type 0
-IsLikeIn peer list a b =
+abbrev pub IsLikeIn : {L : Types} → Families L → List Attribute → Attribute → Attribute → Type 0
+IsLikeIn layer list a b =
     (a.value ≡ b.value)
-    ⊎ (IsTrue (is_list peer (role_in_list list a)) × IsReorderedData a.value b.value)
+    ⊎ (IsTrue (is_list layer (role_in_list list a)) × IsReorderedData a.value b.value)
 
-abbrev pub IsReorderedList : {P : Type 0} → Ghosts P → List ℕ → List ℕ → Type 0
-IsReorderedList peer s t =
-    IsReordering (IsLikeIn peer (nlas_of s)) (nlas_of s) (nlas_of t)
+abbrev pub IsReorderedList : {L : Types} → Families L → List ℕ → List ℕ → Type 0
+IsReorderedList layer s t =
+    IsReordering (IsLikeIn layer (nlas_of s)) (nlas_of s) (nlas_of t)
 
 -- ---- lists with more attributes inside data
 
 -- wanted data of this type is a list, and of each type in it the last attribute has stayed
-abbrev pub StaysFor : {P : Type 0} → Ghosts P → Item → Item → Item → Type 0
-StaysFor peer old new want =
+abbrev pub StaysFor : {L : Types} → Families L → Item → Item → Item → Type 0
+StaysFor layer old new want =
     type_of_item want ≡ type_of_item old →
-    IsTrue (is_list peer (role_of_item want))
+    IsTrue (is_list layer (role_of_item want))
     × HaveSameLasts want.nla.value old.nla.value new.nla.value
 
 -- an attribute of the list has stayed, or is data that has changed beside what is wanted
-pub record HasGained {P : Type 0} (peer : Ghosts P) (want : List Item) (old new : Item) :
+pub record HasGained {L : Types} (layer : Families L) (want : List Item) (old new : Item) :
     Type 0 where
   pub named : old.named ≡ new.named
   pub type : type_of_item old ≡ type_of_item new
-  pub payload : (old.nla ≡ new.nla) ⊎ AllByRecursion (StaysFor peer old new) want
+  pub payload : (old.nla ≡ new.nla) ⊎ AllByRecursion (StaysFor layer old new) want
 
 -- of two lists with the same types in order each attribute is so
-abbrev pub DifferInside : {P : Type 0} → Ghosts P → List ℕ → List ℕ → List ℕ → Type 0
-DifferInside peer want have more =
-    AllZip (HasGained peer (items_of want)) (items_of have) (items_of more)
+abbrev pub DifferInside : {L : Types} → Families L → List ℕ → List ℕ → List ℕ → Type 0
+DifferInside layer want have more =
+    AllZip (HasGained layer (items_of want)) (items_of have) (items_of more)

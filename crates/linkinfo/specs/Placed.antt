@@ -3,7 +3,7 @@ use Rattle.std.specs.Prelude.{◌≡◌, ℕ, ◌+◌, min, sum_by, List, length
 use Rattle.std.proofs.Common.{inl, inr}
 use Rattle.nla_frame.specs.Attribute.{Attribute, aligned}
 use Rattle.nla_frame.specs.declared.error.DecodeError.{DecodeError}
-use Rattle.linkinfo_table.specs.declared.peer.LinkPeer.{Ghosts}
+use Rattle.linkinfo_table.specs.Layers.{Families, Types}
 use Rattle.linkinfo_data.specs.Data.{data_of, family_of}
 use Rattle.linkinfo_data.specs.Difference.{list_error}
 use Rattle.linkinfo_data.specs.Listing.{Listing}
@@ -18,16 +18,16 @@ abbrev pub place_after : List ℕ → List Attribute → ℕ
 place_after s front = min (length s) (sum_by (λ a. aligned (4 + length a.value)) front)
 
 -- the attributes of the list before the one that has the error, or before a rest without a header
-abbrev pub before_error : {P : Type 0} (peer : Ghosts P) (s : List ℕ) (e : DecodeError) →
-    IsRejected peer s e → List Attribute
-before_error peer s e (inl item) = item.front
-before_error peer s e (inr rest) = rest.front
+abbrev pub before_error : {L : Types} (layer : Families L) (s : List ℕ) (e : DecodeError) →
+    IsRejected layer s e → List Attribute
+before_error layer s e (inl item) = item.front
+before_error layer s e (inr rest) = rest.front
 
 -- The byte string has the error, and at this offset is the attribute of the list that has it,
 -- itself or in its data, or a rest without a header.
-abbrev pub IsRejectedAt : {P : Type 0} → Ghosts P → List ℕ → DecodeError → ℕ → Type 0
-IsRejectedAt peer s e place =
-    (rejected : IsRejected peer s e) × (place ≡ place_after s (before_error peer s e rejected))
+abbrev pub IsRejectedAt : {L : Types} → Families L → List ℕ → DecodeError → ℕ → Type 0
+IsRejectedAt layer s e place =
+    (rejected : IsRejected layer s e) × (place ≡ place_after s (before_error layer s e rejected))
 
 -- ---- the innermost attribute that has the error
 
@@ -40,23 +40,23 @@ error_in_payload None payload = 4
 
 -- the offset of the error of a rejected attribute of the list, from its header: 0 for names,
 -- statistics and unknown attributes
-abbrev pub error_in : {P : Type 0} → Ghosts P → Role → Attribute → ℕ
-error_in peer (role.Data tag) a =
-    error_in_payload (data_of peer (family_of tag)).listing a.value
-error_in peer (role.PortData tag) a =
-    error_in_payload (port_data_of (port_family_of tag)).listing a.value
-error_in peer _ a = 0
+abbrev pub error_in : {L : Types} → Families L → Role → Attribute → ℕ
+error_in layer (role.Data tag) a =
+    error_in_payload (data_of layer (family_of tag)).listing a.value
+error_in layer (role.PortData tag) a =
+    error_in_payload (port_data_of layer (port_family_of tag)).listing a.value
+error_in layer _ a = 0
 
-abbrev pub error_in_rejected : {P : Type 0} (peer : Ghosts P) (s : List ℕ) (e : DecodeError) →
-    IsRejected peer s e → ℕ
-error_in_rejected peer s e (inl item) =
-    error_in peer (role_at (kinds_after_all no_kinds item.front) item.item) item.item
-error_in_rejected peer s e (inr rest) = 0
+abbrev pub error_in_rejected : {L : Types} (layer : Families L) (s : List ℕ) (e : DecodeError) →
+    IsRejected layer s e → ℕ
+error_in_rejected layer s e (inl item) =
+    error_in layer (role_at (kinds_after_all no_kinds item.front) item.item) item.item
+error_in_rejected layer s e (inr rest) = 0
 
 -- The byte string has the error, at this offset as `IsRejectedAt` says, and the innermost attribute
 -- that has it is at `inner`.
-abbrev pub IsErrorAt : {P : Type 0} → Ghosts P → List ℕ → DecodeError → ℕ → ℕ → Type 0
-IsErrorAt peer s e place inner =
-    (rejected : IsRejected peer s e)
-    × (place ≡ place_after s (before_error peer s e rejected))
-    × (inner ≡ place + error_in_rejected peer s e rejected)
+abbrev pub IsErrorAt : {L : Types} → Families L → List ℕ → DecodeError → ℕ → ℕ → Type 0
+IsErrorAt layer s e place inner =
+    (rejected : IsRejected layer s e)
+    × (place ≡ place_after s (before_error layer s e rejected))
+    × (inner ≡ place + error_in_rejected layer s e rejected)

@@ -27,7 +27,7 @@ use Rattle.linkinfo_table.specs.Last.{attributes_of, offset_of}
 use Rattle.linkinfo_table.specs.Rows.{row_alike}
 use Rattle.linkinfo_table.specs.declared.last.PlacedNla.{PlacedNla}
 use Rattle.linkinfo_data.specs.Data.{data_of, family_of}
-use Rattle.linkinfo_table.specs.declared.peer.LinkPeer.{Ghosts}
+use Rattle.linkinfo_table.specs.Layers.{Families, Types}
 use Rattle.linkinfo_data.specs.Listing.{Listing}
 use Rattle.linkinfo_data.specs.Payloads.{Payload}
 use Rattle.linkinfo_data.specs.PortData.{port_data_of, port_family_of}
@@ -132,25 +132,25 @@ payload_unmet None alike have want = item_unmet (λ a b. alike a.value b.value) 
 abbrev pub data_unmet : {X : Type 0} → Payload X → PlacedNla → PlacedNla → Option Unmet
 data_unmet payload have want = payload_unmet payload.listing payload.alike have want
 
-abbrev pub role_unmet : {P : Type 0} → Ghosts P → Role → PlacedNla → PlacedNla → Option Unmet
-role_unmet peer (role.Data tag) have want =
-    data_unmet (data_of peer (family_of tag)) have want
-role_unmet peer (role.PortData tag) have want =
-    data_unmet (port_data_of (port_family_of tag)) have want
-role_unmet peer r have want = item_unmet (row_alike (link_row peer r)) have want
+abbrev pub role_unmet : {L : Types} → Families L → Role → PlacedNla → PlacedNla → Option Unmet
+role_unmet layer (role.Data tag) have want =
+    data_unmet (data_of layer (family_of tag)) have want
+role_unmet layer (role.PortData tag) have want =
+    data_unmet (port_data_of layer (port_family_of tag)) have want
+role_unmet layer r have want = item_unmet (row_alike (link_row layer r)) have want
 
-abbrev pub link_unmet : {P : Type 0} → Ghosts P → Option Linked → Linked → Option Unmet
-link_unmet peer None want = Some (whole_unmet want.at None)
-link_unmet peer (Some have) want =
+abbrev pub link_unmet : {L : Types} → Families L → Option Linked → Linked → Option Unmet
+link_unmet layer None want = Some (whole_unmet want.at None)
+link_unmet layer (Some have) want =
     if same_kind (role_of_link want) have.named want.named
-    then role_unmet peer (role_of_link want) have.at want.at
+    then role_unmet layer (role_of_link want) have.at want.at
     else Some (whole_unmet want.at (Some have.at))
 
 -- of an attribute that counts, by the last one of its type in the other list
-abbrev pub counted_unmet : {P : Type 0} → Ghosts P → List ℕ → List ℕ → PlacedNla → Option Unmet
-counted_unmet peer have want p =
+abbrev pub counted_unmet : {L : Types} → Families L → List ℕ → List ℕ → PlacedNla → Option Unmet
+counted_unmet layer have want p =
     if counts (attributes_of want) p
-    then link_unmet peer (option_map (link_at have) (last_like (attributes_of have) p))
+    then link_unmet layer (option_map (link_at have) (last_like (attributes_of have) p))
     (link_at want p)
     else None
 
@@ -159,8 +159,8 @@ abbrev pub first_of : (PlacedNla → Option Unmet) → List PlacedNla → Option
 first_of unmet [] = None
 first_of unmet (p ∷ more) = first_or (unmet p) (first_of unmet more)
 
-abbrev pub strings_unmet : {P : Type 0} → Ghosts P → List ℕ → List ℕ → Option Unmet
-strings_unmet peer have want = first_of (counted_unmet peer have want) (attributes_of want)
+abbrev pub strings_unmet : {L : Types} → Families L → List ℕ → List ℕ → Option Unmet
+strings_unmet layer have want = first_of (counted_unmet layer have want) (attributes_of want)
 
 -- the error of the first string, else that of the second, else what is not met
 abbrev pub unmet_answer : {X : Type 0} → Result X DecodeError → Result X DecodeError →

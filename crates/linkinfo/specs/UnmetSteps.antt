@@ -6,13 +6,13 @@ use Rattle.nla_frame.specs.Attribute.{Attribute}
 use Rattle.nla_frame.specs.Payload.{stripped}
 use Rattle.nla_frame.specs.NlaItems.{attribute_at}
 use Rattle.nla_frame.specs.declared.error.DecodeError.{DecodeError}
-use Rattle.linkinfo_table.specs.declared.peer.LinkPeer.{Ghosts}
+use Rattle.linkinfo_table.specs.Layers.{Families, Types}
 use Rattle.linkinfo.specs.Items.{link_meaning}
 use Rattle.linkinfo.specs.Unmet.{Linked, kinds_named}
 
 -- an attribute means something under its kinds, and is in memory as a whole
-pub record IsAcceptedLink {P : Type 0} (peer : Ghosts P) (link : Linked) : Type 0 where
-  pub means : IsOk (link_meaning peer (kinds_named link.named) link.at.nla)
+pub record IsAcceptedLink {L : Types} (layer : Families L) (link : Linked) : Type 0 where
+  pub means : IsOk (link_meaning layer (kinds_named link.named) link.at.nla)
   pub room : link.at.offset + (4 + length link.at.nla.value) < 2 ^ 64
 
 -- what attributes of these types mean depends on a kind: data, statistics and port data

@@ -2,14 +2,14 @@
 
 ghost use Rattle.std.specs.Prelude.{◌≡◌, IfErr, IfOk};
 ghost use Rattle.nla_frame.specs.Error.{memory_error};
-ghost use Rattle.linkinfo_data.specs.BytesPeer.{bytes_peer};
+ghost use Rattle.linkinfo_data.specs.BytesLayer.{bytes_layer};
 ghost use Rattle.linkinfo.specs.Canon.{CanonIsCertain, CanonRefuses, IsCanonical, canon_error_text};
 ghost use Rattle.linkinfo.specs.Items.{link_attribute};
 ghost use Rattle.linkinfo.specs.Strings.{reading};
 ghost use Rattle.linkinfo.specs.declared.canonical.CanonError.TheVariants as refused;
 
 use crate::canonical_into::{canonical_len_of, write_canonical_of};
-use linkinfo_table::LinkPeer;
+use linkinfo_data::DataLayer;
 use nla_frame::{Bytes, DecodeError, ExactEq};
 use std::alloc::{AllocError, Global};
 use std::error::Error;
@@ -76,13 +76,13 @@ impl ExactEq for CanonError {
 /// `(Frame, 0, Memory)` if the allocation fails. An error in the bytes, `Unfit` and an empty result
 /// need no memory.
 #[tactic(auto, using(crate::proofs::Writing::length_accepted, crate::proofs::Writing::length_fits, crate::proofs::Writing::length_same, crate::proofs::Writing::written_whole))]
-pub fn canon_of<P: LinkPeer>(alloc: Global, bytes: &[u8]) -> Result<Vec<u8>, CanonError>
-    ensures string { IfOk result (λ canonical. IsCanonical (link_attribute P.LinkPeer.own)
-        (reading P.LinkPeer.own bytes.now) canonical.items) }
-    ensures refused { IfErr result (CanonRefuses (link_attribute P.LinkPeer.own)
-        (reading P.LinkPeer.own bytes.now)) }
-    ensures certain { CanonIsCertain (link_attribute P.LinkPeer.own)
-        (reading P.LinkPeer.own bytes.now) result }
+pub fn canon_of<P: DataLayer>(alloc: Global, bytes: &[u8]) -> Result<Vec<u8>, CanonError>
+    ensures string { IfOk result (λ canonical. IsCanonical (link_attribute P.families)
+        (reading P.families bytes.now) canonical.items) }
+    ensures refused { IfErr result (CanonRefuses (link_attribute P.families)
+        (reading P.families bytes.now)) }
+    ensures certain { CanonIsCertain (link_attribute P.families)
+        (reading P.families bytes.now) result }
 {
     let len = canonical_len_of::<P>(bytes)?;
     let mut string = Vec::new(alloc);
@@ -100,10 +100,10 @@ pub fn canon_of<P: LinkPeer>(alloc: Global, bytes: &[u8]) -> Result<Vec<u8>, Can
 pub fn canon(alloc: Global, bytes: &[u8]) -> Result<Vec<u8>, CanonError>
     ensures string { IfOk result
         (λ canonical.
-        IsCanonical (link_attribute bytes_peer) (reading bytes_peer bytes.now) canonical.items) }
+        IsCanonical (link_attribute bytes_layer) (reading bytes_layer bytes.now) canonical.items) }
     ensures refused { IfErr result
-        (CanonRefuses (link_attribute bytes_peer) (reading bytes_peer bytes.now)) }
-    ensures certain { CanonIsCertain (link_attribute bytes_peer) (reading bytes_peer bytes.now)
+        (CanonRefuses (link_attribute bytes_layer) (reading bytes_layer bytes.now)) }
+    ensures certain { CanonIsCertain (link_attribute bytes_layer) (reading bytes_layer bytes.now)
         result }
 {
     canon_of::<Bytes>(alloc, bytes)

@@ -17,7 +17,7 @@ ghost use Rattle.nla_frame.specs.Answers.{verdict};
 ghost use Rattle.nla_frame.specs.Attribute.{ListFits, list_string};
 ghost use Rattle.nla_frame.specs.Canonical.{attributes_for};
 ghost use Rattle.nla_frame.specs.NlaItems.{nla_items};
-ghost use Rattle.linkinfo_data.specs.BytesPeer.{bytes_peer};
+ghost use Rattle.linkinfo_data.specs.BytesLayer.{bytes_layer};
 ghost use Rattle.linkinfo_table.specs.Lists.{Measures};
 ghost use Rattle.linkinfo.specs.Canon.{
   IntoRefuses,
@@ -34,8 +34,9 @@ ghost use Rattle.linkinfo.specs.Walks.{values_left};
 use crate::canonical::CanonError;
 use crate::item::{measure_item, write_item};
 use crate::walk::LinkInfoWalk;
+use linkinfo_data::DataLayer;
 use linkinfo_data::laws::families_lawful;
-use linkinfo_table::{LinkPeer, total_with};
+use linkinfo_table::total_with;
 use nla_frame::{Bytes, DecodeError, ExactEq};
 use std::error::Error;
 use std::fmt;
@@ -99,9 +100,9 @@ impl ExactEq for CanonIntoError {
 /// error is that of the first attribute that is rejected. Of accepted attributes the result is the
 /// length, in bytes, of their canonical encoding, or `None` if they do not fit. An attribute that
 /// does not fit does not end the pass, since a later one may be rejected.
-fn rest_measure<P: LinkPeer>(walk: &mut LinkInfoWalk<'_>) -> Result<Option<usize>, DecodeError>
-    ensures { let values = values_left P.LinkPeer.own walk.old in
-        let attributes = attributes_for (link_attribute P.LinkPeer.own) values in
+fn rest_measure<P: DataLayer>(walk: &mut LinkInfoWalk<'_>) -> Result<Option<usize>, DecodeError>
+    ensures { let values = values_left P.families walk.old in
+        let attributes = attributes_for (link_attribute P.families) values in
         Measures (verdict values) (ListFits attributes) (length (list_string attributes)) result }
 {
     families_lawful::<P>();
@@ -116,14 +117,14 @@ fn rest_measure<P: LinkPeer>(walk: &mut LinkInfoWalk<'_>) -> Result<Option<usize
 
 /// Writes the canonical encoding of the attributes that a walk has not visited to the front of the
 /// buffer. The rest of the buffer is unchanged.
-fn write_rest<P: LinkPeer>(walk: &mut LinkInfoWalk<'_>, buffer: &mut [u8])
-    requires accepted { IsOk (values_left P.LinkPeer.own walk.old) }
-    requires fits { ListFits (attributes_for (link_attribute P.LinkPeer.own)
-        (values_left P.LinkPeer.own walk.old)) }
-    requires room { length (list_string (attributes_for (link_attribute P.LinkPeer.own)
-        (values_left P.LinkPeer.own walk.old))) ≤ length buffer.old }
-    ensures { let string = list_string (attributes_for (link_attribute P.LinkPeer.own)
-        (values_left P.LinkPeer.own walk.old)) in
+fn write_rest<P: DataLayer>(walk: &mut LinkInfoWalk<'_>, buffer: &mut [u8])
+    requires accepted { IsOk (values_left P.families walk.old) }
+    requires fits { ListFits (attributes_for (link_attribute P.families)
+        (values_left P.families walk.old)) }
+    requires room { length (list_string (attributes_for (link_attribute P.families)
+        (values_left P.families walk.old))) ≤ length buffer.old }
+    ensures { let string = list_string (attributes_for (link_attribute P.families)
+        (values_left P.families walk.old)) in
         buffer.new ≡ string ++ drop (length string) buffer.old }
 {
     families_lawful::<P>();
@@ -138,11 +139,11 @@ fn write_rest<P: LinkPeer>(walk: &mut LinkInfoWalk<'_>, buffer: &mut [u8])
 /// is none. Each header of the list, and of data, is examined once; those in lists inside the
 /// attributes of data twice.
 #[tactic(auto, unfolding(crate::specs::Strings::reading), using(crate::proofs::Writing::length_is, crate::proofs::Writing::unfit_is))]
-pub(crate) fn canonical_len_of<P: LinkPeer>(bytes: &[u8]) -> Result<usize, CanonError>
-    ensures length { IfOk result (IsCanonicalLength (link_attribute P.LinkPeer.own)
-        (reading P.LinkPeer.own bytes.now)) }
-    ensures refused { IfErr result (LengthRefuses (link_attribute P.LinkPeer.own)
-        (reading P.LinkPeer.own bytes.now)) }
+pub(crate) fn canonical_len_of<P: DataLayer>(bytes: &[u8]) -> Result<usize, CanonError>
+    ensures length { IfOk result (IsCanonicalLength (link_attribute P.families)
+        (reading P.families bytes.now)) }
+    ensures refused { IfErr result (LengthRefuses (link_attribute P.families)
+        (reading P.families bytes.now)) }
 {
     match rest_measure::<P>(&mut LinkInfoWalk::new(bytes))? {
         Some(len) => Ok(len),
@@ -154,14 +155,14 @@ pub(crate) fn canonical_len_of<P: LinkPeer>(bytes: &[u8]) -> Result<usize, Canon
 /// rest of the buffer is unchanged. Requires that the bytes are accepted, that the list fits, and
 /// that the buffer has room for the encoding.
 #[tactic(auto, unfolding(crate::specs::Strings::reading))]
-pub(crate) fn write_canonical_of<P: LinkPeer>(bytes: &[u8], buffer: &mut [u8])
-    requires accepted { IsOk (reading P.LinkPeer.own bytes.now) }
-    requires fits { ListFits (attributes_for (link_attribute P.LinkPeer.own)
-        (reading P.LinkPeer.own bytes.now)) }
-    requires room { length (list_string (attributes_for (link_attribute P.LinkPeer.own)
-        (reading P.LinkPeer.own bytes.now))) ≤ length buffer.old }
-    ensures { let string = list_string (attributes_for (link_attribute P.LinkPeer.own)
-        (reading P.LinkPeer.own bytes.now)) in
+pub(crate) fn write_canonical_of<P: DataLayer>(bytes: &[u8], buffer: &mut [u8])
+    requires accepted { IsOk (reading P.families bytes.now) }
+    requires fits { ListFits (attributes_for (link_attribute P.families)
+        (reading P.families bytes.now)) }
+    requires room { length (list_string (attributes_for (link_attribute P.families)
+        (reading P.families bytes.now))) ≤ length buffer.old }
+    ensures { let string = list_string (attributes_for (link_attribute P.families)
+        (reading P.families bytes.now)) in
         buffer.new ≡ string ++ drop (length string) buffer.old }
 {
     write_rest::<P>(&mut LinkInfoWalk::new(bytes), buffer);
@@ -175,13 +176,13 @@ pub(crate) fn write_canonical_of<P: LinkPeer>(bytes: &[u8], buffer: &mut [u8])
 /// the buffer is too short. An error leaves the whole buffer unchanged, and success the rest after
 /// the encoding.
 #[tactic(auto, using(crate::proofs::Writing::length_accepted, crate::proofs::Writing::length_fits, crate::proofs::Writing::length_same, crate::proofs::Writing::written_front, crate::proofs::Writing::written_after))]
-pub fn canon_into_of<P: LinkPeer>(bytes: &[u8], buffer: &mut [u8]) -> Result<usize, CanonIntoError>
-    ensures string { IfOk result (λ n. IsCanonical (link_attribute P.LinkPeer.own)
-        (reading P.LinkPeer.own bytes.now) (take n buffer.new)) }
+pub fn canon_into_of<P: DataLayer>(bytes: &[u8], buffer: &mut [u8]) -> Result<usize, CanonIntoError>
+    ensures string { IfOk result (λ n. IsCanonical (link_attribute P.families)
+        (reading P.families bytes.now) (take n buffer.new)) }
     ensures within { IfOk result (λ n. n ≤ length buffer.old) }
     ensures after { IfOk result (λ n. drop n buffer.new ≡ drop n buffer.old) }
-    ensures refused { IfErr result (IntoRefuses (link_attribute P.LinkPeer.own)
-        (reading P.LinkPeer.own bytes.now) (length buffer.old)) }
+    ensures refused { IfErr result (IntoRefuses (link_attribute P.families)
+        (reading P.families bytes.now) (length buffer.old)) }
     ensures unchanged { OnErr result (buffer.new ≡ buffer.old) }
 {
     let needed = canonical_len_of::<P>(bytes)?;
@@ -202,12 +203,12 @@ pub fn canon_into_of<P: LinkPeer>(bytes: &[u8], buffer: &mut [u8]) -> Result<usi
 pub fn canon_into(bytes: &[u8], buffer: &mut [u8]) -> Result<usize, CanonIntoError>
     ensures string { IfOk result
         (λ n.
-        IsCanonical (link_attribute bytes_peer) (reading bytes_peer bytes.now)
+        IsCanonical (link_attribute bytes_layer) (reading bytes_layer bytes.now)
         (take n buffer.new)) }
     ensures within { IfOk result (λ n. n ≤ length buffer.old) }
     ensures after { IfOk result (λ n. drop n buffer.new ≡ drop n buffer.old) }
     ensures refused { IfErr result
-        (IntoRefuses (link_attribute bytes_peer) (reading bytes_peer bytes.now)
+        (IntoRefuses (link_attribute bytes_layer) (reading bytes_layer bytes.now)
         (length buffer.old)) }
     ensures unchanged { OnErr result (buffer.new ≡ buffer.old) }
 {

@@ -4,11 +4,13 @@ ghost use Rattle.std.specs.Prelude.{◌≡◌};
 
 use crate::link_info::LinkInfoOf;
 use crate::list::VecLinkInfoOf;
+use linkinfo_data::DataLayer;
+use linkinfo_table::LinkLayer;
 use nla_frame::Nlas;
 use std::{slice, vec};
 
 /// The list of these attributes, in order. The `Vec` is moved, not copied.
-impl<P> From<Vec<LinkInfoOf<P>>> for VecLinkInfoOf<P> {
+impl<P: LinkLayer> From<Vec<LinkInfoOf<P>>> for VecLinkInfoOf<P> {
     ghost from_gives = { λ items list. list.0 ≡ items.items };
 
     fn from(items: Vec<LinkInfoOf<P>>) -> VecLinkInfoOf<P> {
@@ -17,12 +19,12 @@ impl<P> From<Vec<LinkInfoOf<P>>> for VecLinkInfoOf<P> {
 }
 
 /// Iterates over the attributes in order, by value.
-impl<P: Drop> IntoIterator for VecLinkInfoOf<P> {
+impl<P: DataLayer> IntoIterator for VecLinkInfoOf<P> {
     ghost use Rattle.std.specs.Prelude.{◌≡◌, ◌^◌, ◌<◌, length};
     ghost use Rattle.std.specs.Iterator.Runs.{EveryRun, ItemsAre};
     ghost use Rattle.std.specs.Vec.Iter.{into_iter_items, into_iter_len, into_iter_steps};
     ghost use Rattle.std.specs.declared.alloc.Global.{Global};
-    ghost use Rattle.linkinfo.specs.declared.link_info.LinkInfoOf.{LinkInfoOf};
+    ghost use Rattle.linkinfo.specs.Layered.{Link};
 
     type Item = LinkInfoOf<P>;
 
@@ -31,7 +33,7 @@ impl<P: Drop> IntoIterator for VecLinkInfoOf<P> {
     ghost into_iter_gives = { λ list it. (into_iter_items it ≡ list.0)
         × (into_iter_len it ≡ length list.0)
         × (into_iter_len it < 2 ^ 64)
-        × EveryRun (into_iter_steps {X = LinkInfoOf P} {Z = Global})
+        × EveryRun (into_iter_steps {X = Link P.families} {Z = Global})
         (λ p. ItemsAre p (into_iter_items p.from)) };
 
     fn into_iter(self) -> vec::IntoIter<LinkInfoOf<P>> {
@@ -40,11 +42,11 @@ impl<P: Drop> IntoIterator for VecLinkInfoOf<P> {
 }
 
 /// Iterates over the attributes in order, by reference, as `iter` does.
-impl<'a, P> IntoIterator for &'a VecLinkInfoOf<P> {
+impl<'a, P: DataLayer> IntoIterator for &'a VecLinkInfoOf<P> {
     ghost use Rattle.std.specs.Prelude.{◌≡◌, ◌^◌, ◌<◌, length};
     ghost use Rattle.std.specs.Iterator.Adapters.{IterYieldsInOrder};
     ghost use Rattle.std.specs.Slice.Iter.{iter_rest};
-    ghost use Rattle.linkinfo.specs.declared.link_info.LinkInfoOf.{LinkInfoOf};
+    ghost use Rattle.linkinfo.specs.Layered.{Link};
 
     type Item = &'a LinkInfoOf<P>;
 
@@ -52,7 +54,7 @@ impl<'a, P> IntoIterator for &'a VecLinkInfoOf<P> {
 
     ghost into_iter_gives = { λ list it. (iter_rest it ≡ list.now.0)
         × (length (iter_rest it) < 2 ^ 64)
-        × IterYieldsInOrder (LinkInfoOf P) };
+        × IterYieldsInOrder (Link P.families) };
 
     fn into_iter(self) -> slice::Iter<'a, LinkInfoOf<P>> {
         self.iter()

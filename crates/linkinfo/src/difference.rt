@@ -2,7 +2,7 @@
 
 ghost use Rattle.std.specs.Prelude.{◌≡◌, ◌≢◌, ◌+◌, ◌<◌, ◌^◌, IfErr, IsOk, length};
 ghost use Rattle.nla_frame.specs.Error.{memory_error};
-ghost use Rattle.linkinfo_data.specs.BytesPeer.{bytes_peer};
+ghost use Rattle.linkinfo_data.specs.BytesLayer.{bytes_layer};
 ghost use Rattle.linkinfo.specs.Comparing.{either_error, placed_answer};
 ghost use Rattle.linkinfo.specs.Difference.{data_difference, role_difference, strings_difference};
 ghost use Rattle.linkinfo.specs.Items.{item_meaning};
@@ -13,10 +13,10 @@ use crate::list::check_of;
 use crate::placed::ErrorIn;
 use crate::role::{CurrentKinds, Role, kinds_after, role_of};
 use linkinfo_data::{
-    DataFamily, Difference, InfoDataOf, InfoPortData, PayloadFamily, PortFamily, family_of,
-    list_difference, port_family_of, same_payloads,
+    DataFamily, DataLayer, Difference, InfoDataOf, InfoPortDataOf, PayloadFamily, PortFamily,
+    family_of, list_difference, port_family_of, same_payloads,
 };
-use linkinfo_table::{LinkPeer, PlacedNla};
+use linkinfo_table::PlacedNla;
 use nla_frame::{Bytes, Family, HeaderCount, next_attribute};
 
 /// The first difference of two attributes with data of one family: in the data if that is a list,
@@ -44,21 +44,21 @@ fn data_difference<D: Drop, F: PayloadFamily<D>>(
 }
 
 /// The first difference of two attributes of one type, by the role of the first.
-fn role_difference<P: LinkPeer>(
+fn role_difference<P: DataLayer>(
     role: Role,
     p: &PlacedNla<'_>,
     q: &PlacedNla<'_>,
 ) -> Option<Difference>
-    requires first { IsOk (item_meaning P.LinkPeer.own role p.now.nla) }
-    requires second { IsOk (item_meaning P.LinkPeer.own role q.now.nla) }
+    requires first { IsOk (item_meaning P.families role p.now.nla) }
+    requires second { IsOk (item_meaning P.families role q.now.nla) }
     requires first_room { p.now.offset + (4 + length p.now.nla.value) < 2 ^ 64 }
     requires second_room { q.now.offset + (4 + length q.now.nla.value) < 2 ^ 64 }
-    ensures { result ≡ role_difference P.LinkPeer.own role p.now q.now }
+    ensures { result ≡ role_difference P.families role p.now q.now }
 {
     match role {
         Role::Data(tag) => data_difference::<InfoDataOf<P>, DataFamily>(family_of(tag), p, q),
         Role::PortData(tag) => {
-            data_difference::<InfoPortData, PortFamily>(port_family_of(tag), p, q)
+            data_difference::<InfoPortDataOf<P>, PortFamily>(port_family_of(tag), p, q)
         }
         _ if same_item::<P>(&p.nla, &q.nla, role, &mut HeaderCount::new()) => None,
         _ => Some(Difference::of_pair(Family::LinkInfo, p, q)),
@@ -66,10 +66,10 @@ fn role_difference<P: LinkPeer>(
 }
 
 /// The first difference of two accepted lists.
-fn first_difference_in<P: LinkPeer>(a: &[u8], b: &[u8]) -> Option<Difference>
-    requires first { IsOk (reading P.LinkPeer.own a.now) }
-    requires second { IsOk (reading P.LinkPeer.own b.now) }
-    ensures { result ≡ strings_difference P.LinkPeer.own a.now b.now }
+fn first_difference_in<P: DataLayer>(a: &[u8], b: &[u8]) -> Option<Difference>
+    requires first { IsOk (reading P.families a.now) }
+    requires second { IsOk (reading P.families b.now) }
+    ensures { result ≡ strings_difference P.families a.now b.now }
 {
     let mut count = HeaderCount::new();
     let mut kinds = CurrentKinds::none();
@@ -121,9 +121,9 @@ fn first_difference_in<P: LinkPeer>(a: &[u8], b: &[u8]) -> Option<Difference>
 ///
 /// The error is that of `a`, otherwise that of `b`. Each header is examined at most four times.
 /// Does not allocate.
-pub fn first_difference_of<P: LinkPeer>(a: &[u8], b: &[u8]) -> Result<Option<Difference>, ErrorIn>
-    ensures answer { result ≡ placed_answer (reading P.LinkPeer.own a.now)
-        (reading P.LinkPeer.own b.now) (strings_difference P.LinkPeer.own a.now b.now) }
+pub fn first_difference_of<P: DataLayer>(a: &[u8], b: &[u8]) -> Result<Option<Difference>, ErrorIn>
+    ensures answer { result ≡ placed_answer (reading P.families a.now)
+        (reading P.families b.now) (strings_difference P.families a.now b.now) }
     ensures no_memory { IfErr result (λ at. either_error at ≢ memory_error) }
 {
     match check_of::<P>(a) {
@@ -148,8 +148,8 @@ pub fn first_difference_of<P: LinkPeer>(a: &[u8], b: &[u8]) -> Result<Option<Dif
 /// ```
 pub fn first_difference(a: &[u8], b: &[u8]) -> Result<Option<Difference>, ErrorIn>
     ensures answer { result
-        ≡ placed_answer (reading bytes_peer a.now) (reading bytes_peer b.now)
-        (strings_difference bytes_peer a.now b.now) }
+        ≡ placed_answer (reading bytes_layer a.now) (reading bytes_layer b.now)
+        (strings_difference bytes_layer a.now b.now) }
     ensures no_memory { IfErr result (λ at. either_error at ≢ memory_error) }
 {
     first_difference_of::<Bytes>(a, b)

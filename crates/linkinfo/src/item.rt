@@ -39,14 +39,14 @@ use crate::link_info::LinkInfoOf;
 use crate::role::{CurrentKinds, Role, error, name_in};
 use crate::xstats::LinkXstats;
 use linkinfo_data::{
-    DataFamily, InfoDataOf, InfoPortData, PayloadFamily, PortFamily, check_payload, family_of,
-    measure_payload, port_family_of, same_payloads, write_canonical_payload,
+    DataFamily, DataLayer, InfoDataOf, InfoPortDataOf, PayloadFamily, PortFamily, check_payload,
+    family_of, measure_payload, port_family_of, same_payloads, write_canonical_payload,
 };
 use linkinfo_numbers::{
     IFLA_INFO_DATA, IFLA_INFO_KIND, IFLA_INFO_SLAVE_DATA, IFLA_INFO_SLAVE_KIND, IFLA_INFO_XSTATS,
     InfoKind, InfoPortKind, KindTag, PortTag,
 };
-use linkinfo_table::{LinkPeer, Shape, shape_canonical_len, shape_same, shape_write_attribute};
+use linkinfo_table::{Shape, shape_canonical_len, shape_same, shape_write_attribute};
 use nla_frame::{
     Bytes, Cause, DecodeError, DefaultNla, HeaderCount, Nla, NlaBuffer, Parseable, Text, fitting,
     write_bytes_attribute, write_frame,
@@ -55,7 +55,7 @@ use std::alloc::Global;
 
 /// Parses an attribute by its role. Requires the current kinds after the attribute, as a walk has
 /// them: if the attribute names a kind, the current kind is that name's.
-pub(crate) fn read_item<P: LinkPeer>(
+pub(crate) fn read_item<P: DataLayer>(
     alloc: Global,
     nla: &NlaBuffer<'_>,
     role: Role,
@@ -65,8 +65,8 @@ pub(crate) fn read_item<P: LinkPeer>(
     requires entered { (before : CurrentKinds)
         × (kinds_after_role role before nla.now ≡ Ok kinds_after) }
     requires room { count.old + length nla.now.value / 4 < 2 ^ 64 }
-    ensures { Reads (λ value. value) result (item_meaning P.LinkPeer.own role nla.now)
-        (item_memory P.LinkPeer.own role nla.now) (item_headers P.LinkPeer.own role nla.now)
+    ensures { Reads (λ value. value) result (item_meaning P.families role nla.now)
+        (item_memory P.families role nla.now) (item_headers P.families role nla.now)
         (length nla.now.value) count.old count.new }
 {
     match role {
@@ -131,15 +131,15 @@ fn read_port_kind(
 /// Validates an attribute by its role: returns `Ok` if `read_item` accepts it, otherwise the error
 /// of the attribute. Requires an attribute that a walk has returned. Does not allocate.
 #[inline(always)]
-pub(crate) fn check_item<P: LinkPeer>(
+pub(crate) fn check_item<P: DataLayer>(
     nla: &NlaBuffer<'_>,
     role: Role,
     count: &mut HeaderCount,
 ) -> Result<(), DecodeError>
     requires entered { IsOk (kinds_after_role role no_kinds nla.now) }
     requires room { count.old + length nla.now.value / 4 < 2 ^ 64 }
-    ensures { Checks result (verdict (item_meaning P.LinkPeer.own role nla.now))
-        (item_headers P.LinkPeer.own role nla.now) (length nla.now.value) count.old count.new }
+    ensures { Checks result (verdict (item_meaning P.families role nla.now))
+        (item_headers P.families role nla.now) (length nla.now.value) count.old count.new }
 {
     match role {
         Role::Kind => Ok(()),
@@ -150,7 +150,7 @@ pub(crate) fn check_item<P: LinkPeer>(
         ),
         Role::Xstats => Ok(()),
         Role::PortKind => Ok(()),
-        Role::PortData(tag) => check_payload::<InfoPortData, PortFamily>(
+        Role::PortData(tag) => check_payload::<InfoPortDataOf<P>, PortFamily>(
             port_family_of(tag),
             nla.value(),
             count,
@@ -162,18 +162,18 @@ pub(crate) fn check_item<P: LinkPeer>(
 
 /// Returns whether two attributes are equivalent by the role of the first. Requires that both are
 /// accepted. Does not allocate.
-pub(crate) fn same_item<P: LinkPeer>(
+pub(crate) fn same_item<P: DataLayer>(
     a: &NlaBuffer<'_>,
     b: &NlaBuffer<'_>,
     role: Role,
     count: &mut HeaderCount,
 ) -> bool
-    requires first { IsOk (item_meaning P.LinkPeer.own role a.now) }
+    requires first { IsOk (item_meaning P.families role a.now) }
     requires second { masked b.now.kind ≡ masked a.now.kind →
-        IsOk (item_meaning P.LinkPeer.own role b.now) }
+        IsOk (item_meaning P.families role b.now) }
     requires room { count.old + (length a.now.value + length b.now.value) / 4 < 2 ^ 64 }
-    ensures { Compares result (item_alike P.LinkPeer.own role a.now b.now)
-        (item_headers P.LinkPeer.own role a.now + item_headers P.LinkPeer.own role b.now)
+    ensures { Compares result (item_alike P.families role a.now b.now)
+        (item_headers P.families role a.now + item_headers P.families role b.now)
         (length a.now.value + length b.now.value) count.old count.new }
 {
     let same_kind = b.kind() == a.kind();
@@ -192,7 +192,7 @@ pub(crate) fn same_item<P: LinkPeer>(
         Role::PortKind => same_kind && shape_same(Shape::Name, a.value(), b.value()),
         Role::PortData(tag) => {
             same_kind
-                && same_payloads::<InfoPortData, PortFamily>(
+                && same_payloads::<InfoPortDataOf<P>, PortFamily>(
                     port_family_of(tag),
                     a.value(),
                     b.value(),
@@ -208,13 +208,13 @@ pub(crate) fn same_item<P: LinkPeer>(
 /// error is that of the attribute. Of an accepted attribute the result is the length, in bytes, of
 /// its canonical payload, or `None` if that is above 65531. Requires an attribute that a walk has
 /// returned. Does not allocate.
-pub(crate) fn measure_item<P: LinkPeer>(
+pub(crate) fn measure_item<P: DataLayer>(
     nla: &NlaBuffer<'_>,
     role: Role,
 ) -> Result<Option<usize>, DecodeError>
     requires { IsOk (kinds_after_role role no_kinds nla.now) }
-    ensures { let canonical = written_attribute P.LinkPeer.own role nla.now in
-        Measures (verdict (item_meaning P.LinkPeer.own role nla.now))
+    ensures { let canonical = written_attribute P.families role nla.now in
+        Measures (verdict (item_meaning P.families role nla.now))
         (Fits canonical) (length canonical.value) result }
 {
     let value = nla.value();
@@ -224,7 +224,7 @@ pub(crate) fn measure_item<P: LinkPeer>(
         Role::Xstats => Ok(fitting(value.len())),
         Role::PortKind => Ok(shape_canonical_len(Shape::Name, value)),
         Role::PortData(tag) => {
-            measure_payload::<InfoPortData, PortFamily>(port_family_of(tag), value)
+            measure_payload::<InfoPortDataOf<P>, PortFamily>(port_family_of(tag), value)
         }
         Role::Misplaced => Err(error(nla, Cause::Order)),
         Role::Unknown => Ok(fitting(value.len())),
@@ -235,12 +235,12 @@ pub(crate) fn measure_item<P: LinkPeer>(
 /// returns its length in bytes. The rest of the buffer is unchanged. Requires that the attribute is
 /// accepted, that its canonical payload has at most 65531 bytes, and that the buffer has room. Does
 /// not allocate.
-pub(crate) fn write_item<P: LinkPeer>(nla: &NlaBuffer<'_>, role: Role, buffer: &mut [u8]) -> usize
-    requires accepted { IsOk (item_meaning P.LinkPeer.own role nla.now) }
-    requires fits { Fits (written_attribute P.LinkPeer.own role nla.now) }
-    requires room { buffer_len_of (written_attribute P.LinkPeer.own role nla.now)
+pub(crate) fn write_item<P: DataLayer>(nla: &NlaBuffer<'_>, role: Role, buffer: &mut [u8]) -> usize
+    requires accepted { IsOk (item_meaning P.families role nla.now) }
+    requires fits { Fits (written_attribute P.families role nla.now) }
+    requires room { buffer_len_of (written_attribute P.families role nla.now)
         ≤ length buffer.old }
-    ensures { WritesAttribute (written_attribute P.LinkPeer.own role nla.now)
+    ensures { WritesAttribute (written_attribute P.families role nla.now)
         buffer.old buffer.new result }
 {
     let value = nla.value();
@@ -257,7 +257,7 @@ pub(crate) fn write_item<P: LinkPeer>(nla: &NlaBuffer<'_>, role: Role, buffer: &
         Role::Xstats => write_bytes_attribute(IFLA_INFO_XSTATS, value, buffer),
         Role::PortKind => shape_write_attribute(Shape::Name, IFLA_INFO_SLAVE_KIND, value, buffer),
         Role::PortData(tag) => {
-            write_payload::<InfoPortData, PortFamily>(
+            write_payload::<InfoPortDataOf<P>, PortFamily>(
                 port_family_of(tag),
                 IFLA_INFO_SLAVE_DATA,
                 value,

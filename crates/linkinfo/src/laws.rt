@@ -17,6 +17,7 @@ ghost use Rattle.std.specs.Prelude.{
 };
 ghost use Rattle.std.specs.Iterator.{Yields};
 ghost use Rattle.std.specs.List.{AllByRecursion};
+ghost use Rattle.std.specs.Bool.{Decides};
 ghost use Rattle.nla_frame.specs.Attribute.{
   Attribute,
   Fits,
@@ -51,14 +52,14 @@ ghost use Rattle.linkinfo_numbers.specs.Table.{IsRead};
 ghost use Rattle.linkinfo_numbers.specs.declared.kind.InfoKind.{InfoKind};
 ghost use Rattle.linkinfo_numbers.specs.declared.port_kind.InfoPortKind.{InfoPortKind};
 ghost use Rattle.linkinfo_numbers.specs.declared.tags.KindTag.TheVariants as tag;
-ghost use Rattle.linkinfo_data.specs.declared.info_data.InfoDataOf.{InfoDataOf};
-ghost use Rattle.linkinfo_data.specs.declared.port_data.InfoPortData.{InfoPortData};
+ghost use Rattle.linkinfo_data.specs.Conditions.{opaque_families};
 ghost use Rattle.linkinfo.specs.Xstats.{xstats_bytes};
 ghost use Rattle.linkinfo.specs.declared.xstats.LinkXstats.{LinkXstats};
 ghost use Rattle.nla_frame.specs.declared.default_nla.DefaultNla.{DefaultNla};
 ghost use Rattle.linkinfo.specs.declared.role.Role.{Role};
 ghost use Rattle.linkinfo.specs.Difference.{strings_difference};
 ghost use Rattle.linkinfo.specs.Items.{link_meaning, link_other, link_well};
+ghost use Rattle.linkinfo.specs.Layered.{Data, LinkList, Links, PortData};
 ghost use Rattle.linkinfo.specs.Roles.{no_kinds, role_at};
 ghost use Rattle.linkinfo.specs.Strings.{
   IsRejected,
@@ -78,29 +79,31 @@ ghost use Rattle.linkinfo.specs.declared.role.Role.TheVariants as role;
 use crate::link_info::LinkInfoOf;
 use crate::list::VecLinkInfoOf;
 use crate::walk::{LinkInfoItem, LinkInfoWalk};
+use linkinfo_data::DataLayer;
 use linkinfo_data::laws::{families_lawful, well_formed as data_well_formed};
-use linkinfo_table::LinkPeer;
+use linkinfo_table::{LayerFamilies, LinkPeer};
+use nla_frame::ExactEq;
 
 /// What a byte string means. Each attribute in it means a value, under the current kinds before it,
 /// and the string means these values. Otherwise the string has an error, by `Frames` or `Broken`.
 /// Either an attribute has no meaning, those before it mean values, and the error is that
 /// attribute's; or all attributes mean values, and the rest has no header: `(Frame, 0, Header)`.
 /// Each string means one list or has one error, never both.
-pub fn framed<P: LinkPeer>(bytes: &[u8])
-    ensures means { (xs : List (LinkInfoOf P)) → (reading P.LinkPeer.own bytes.now ≡ Ok xs)
-        ↔ Means P.LinkPeer.own bytes.now xs }
-    ensures rejected { (e : DecodeError) → (reading P.LinkPeer.own bytes.now ≡ Err e)
-        ↔ IsRejected P.LinkPeer.own bytes.now e }
-    ensures decided { IsDecided (Means P.LinkPeer.own bytes.now)
-        (IsRejected P.LinkPeer.own bytes.now) }
+pub fn framed<P: DataLayer>(bytes: &[u8])
+    ensures means { (xs : Links P.families) → (reading P.families bytes.now ≡ Ok xs)
+        ↔ Means P.families bytes.now xs }
+    ensures rejected { (e : DecodeError) → (reading P.families bytes.now ≡ Err e)
+        ↔ IsRejected P.families bytes.now e }
+    ensures decided { IsDecided (Means P.families bytes.now)
+        (IsRejected P.families bytes.now) }
 {}
 
 /// After attributes that each have a meaning, whatever follows them, the current kind is that of
 /// the last name. The current port kind is that of the last port name, or none if port data follows
 /// that name.
-pub fn current_kinds<P: LinkPeer>()
-    ensures { (front : List Attribute) (xs : List (LinkInfoOf P)) →
-        MeansEach P.LinkPeer.own no_kinds front xs → kinds_after_all no_kinds front
+pub fn current_kinds<P: DataLayer>()
+    ensures { (front : List Attribute) (xs : Links P.families) →
+        MeansEach P.families no_kinds front xs → kinds_after_all no_kinds front
         ≡ record { kind = last_kind front; port = last_port front } }
 {}
 
@@ -114,15 +117,15 @@ pub fn tags_by_place(bytes: &[u8])
 {}
 
 /// An attribute of an unknown type is kept verbatim, with its 16-bit type and its payload.
-pub fn unknown_kept<P: LinkPeer>()
+pub fn unknown_kept<P: DataLayer>()
     ensures { (t : CurrentKinds) (a : Attribute) → role_at t a ≡ role.Unknown →
-        link_meaning P.LinkPeer.own t a ≡ Ok (link_other (kept a)) }
+        link_meaning P.families t a ≡ Ok (link_other (kept a)) }
 {}
 
 /// No byte string has the error `(Frame, 0, Memory)`: `VecLinkInfoOf::parse` returns it only if an
 /// allocation failed.
-pub fn no_memory<P: LinkPeer>()
-    ensures { (s : List ℕ) → reading P.LinkPeer.own s ≢ Err memory_error }
+pub fn no_memory<P: DataLayer>()
+    ensures { (s : List ℕ) → reading P.families s ≢ Err memory_error }
 {
     families_lawful::<P>();
 }
@@ -141,27 +144,34 @@ pub fn equal_items()
 ///
 /// A value of that time is converted by `InfoData::parse_with_param`, on its payload and
 /// `InfoKind::Pfcp`.
-pub fn pfcp<P: LinkPeer>(bytes: &[u8])
+pub fn pfcp<P: DataLayer>(bytes: &[u8])
     ensures kind { (r : Role) → (is_pfcp_data r ≡ true) ↔ (r ≡ role.Data tag.Pfcp) }
     ensures bytes { (t : CurrentKinds) (a : Attribute) → role_at t a ≡ role.Data tag.Pfcp →
-        meaning_before P.LinkPeer.own t a ≡ Ok (info.Data (data_of.Other a.value)) }
-    ensures accepted { IsOk (reading P.LinkPeer.own bytes.now) →
-        IsOk (reading_before P.LinkPeer.own bytes.now) }
-    ensures elsewhere { HasNoPfcpData bytes.now → reading P.LinkPeer.own bytes.now
-        ≡ reading_before P.LinkPeer.own bytes.now }
+        meaning_before P.families t a ≡ Ok (info.Data (data_of.Other a.value)) }
+    ensures accepted { IsOk (reading P.families bytes.now) →
+        IsOk (reading_before P.families bytes.now) }
+    ensures elsewhere { HasNoPfcpData bytes.now → reading P.families bytes.now
+        ≡ reading_before P.families bytes.now }
     ensures alike { HasNoPfcpData bytes.now → (other : List ℕ) →
-        alike_strings P.LinkPeer.own bytes.now other
-        ≡ alike_strings_before P.LinkPeer.own bytes.now other }
+        alike_strings P.families bytes.now other
+        ≡ alike_strings_before P.families bytes.now other }
     ensures alike_to { HasNoPfcpData bytes.now → (other : List ℕ) →
-        alike_strings P.LinkPeer.own other bytes.now
-        ≡ alike_strings_before P.LinkPeer.own other bytes.now }
+        alike_strings P.families other bytes.now
+        ≡ alike_strings_before P.families other bytes.now }
+{}
+
+/// `==` of a type with `ExactEq` decides equality.
+pub fn equality<T: ExactEq>()
+    ensures { (x y : T) → Decides (T.eq x y) (x ≡ y) }
 {}
 
 /// `==` of two lists returns true if and only if both hold equal values in the same order.
-pub fn equal_lists<P: LinkPeer>()
-    ensures { (x y : VecLinkInfoOf P) →
+pub fn equal_lists<P: DataLayer>()
+    ensures { (x y : LinkList P.families) →
         IsTrue (⟦<VecLinkInfoOf<P> as PartialEq>⟧.eq x y) ↔ (x ≡ y) }
-{}
+{
+    equality::<LinkInfoOf<P>>();
+}
 
 /// `==` of two walks is true if and only if both are at the same offset of the same bytes, under
 /// the same current kinds and with the same error.
@@ -171,9 +181,9 @@ pub fn equal_walks()
 {}
 
 /// Two accepted lists have no difference (`first_difference`) if and only if they are equivalent.
-pub fn differences<P: LinkPeer>()
-    ensures { (a b : List ℕ) → IsOk (reading P.LinkPeer.own a) → IsOk (reading P.LinkPeer.own b) →
-        (strings_difference P.LinkPeer.own a b ≡ None) ↔ (alike_strings P.LinkPeer.own a b ≡ true) }
+pub fn differences<P: DataLayer>()
+    ensures { (a b : List ℕ) → IsOk (reading P.families a) → IsOk (reading P.families b) →
+        (strings_difference P.families a b ≡ None) ↔ (alike_strings P.families a b ≡ true) }
 {}
 
 /// Each attribute of a list inside an attribute that fits has at most 65531 bytes of payload, and
@@ -193,20 +203,20 @@ pub fn fits_inside()
 /// well formed as `linkinfo_data::laws::well_formed` says (`data`, `port_data`). Statistics follow
 /// a kind (`statistics`). An attribute kept verbatim has none of the types 1 to 5 (`unknown`).
 pub fn well_formed<P: LinkPeer>()
-    ensures list { (xs : List (LinkInfoOf P)) →
-        WellFormed P.LinkPeer.own xs ↔ Conditions P.well xs }
+    ensures list { (xs : Links ⟦<P as LayerFamilies>⟧.families) →
+        WellFormed ⟦<P as LayerFamilies>⟧.families xs ↔ Conditions P.well opaque_families xs }
     ensures kind { (t : CurrentKinds) (k : InfoKind) →
-        link_well P.LinkPeer.own t (info.Kind k) ↔ IsRead kind_table IsText k }
-    ensures data { (t : CurrentKinds) (d : InfoDataOf P) →
-        link_well P.LinkPeer.own t (info.Data d) ↔ IsDataUnder P.well t.kind d }
+        link_well ⟦<P as LayerFamilies>⟧.families t (info.Kind k) ↔ IsRead kind_table IsText k }
+    ensures data { (t : CurrentKinds) (d : Data ⟦<P as LayerFamilies>⟧.families) →
+        link_well ⟦<P as LayerFamilies>⟧.families t (info.Data d) ↔ IsDataUnder P.well opaque_families t.kind d }
     ensures statistics { (t : CurrentKinds) (x : LinkXstats) →
-        link_well P.LinkPeer.own t (info.Xstats x) ↔ ((t.kind ≢ None) × IsBytes (xstats_bytes x)) }
+        link_well ⟦<P as LayerFamilies>⟧.families t (info.Xstats x) ↔ ((t.kind ≢ None) × IsBytes (xstats_bytes x)) }
     ensures port_kind { (t : CurrentKinds) (k : InfoPortKind) →
-        link_well P.LinkPeer.own t (info.PortKind k) ↔ IsRead port_kind_table IsText k }
-    ensures port_data { (t : CurrentKinds) (d : InfoPortData) →
-        link_well P.LinkPeer.own t (info.PortData d) ↔ IsPortDataUnder t.port d }
+        link_well ⟦<P as LayerFamilies>⟧.families t (info.PortKind k) ↔ IsRead port_kind_table IsText k }
+    ensures port_data { (t : CurrentKinds) (d : PortData ⟦<P as LayerFamilies>⟧.families) →
+        link_well ⟦<P as LayerFamilies>⟧.families t (info.PortData d) ↔ IsPortDataUnder P.well opaque_families t.port d }
     ensures unknown { (t : CurrentKinds) (d : DefaultNla) →
-        link_well P.LinkPeer.own t (info.Other d)
+        link_well ⟦<P as LayerFamilies>⟧.families t (info.Other d)
         ↔ ((d.kind < 65536) × IsBytes d.value × IsUnnamed (masked d.kind)) }
 {
     data_well_formed::<P>();

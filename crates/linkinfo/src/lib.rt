@@ -27,7 +27,7 @@ pub use canonical::{CanonError, canon, canon_of};
 pub use canonical_into::{CanonIntoError, canon_into, canon_into_of};
 pub use difference::{first_difference, first_difference_of};
 pub use link_info::{LinkInfo, LinkInfoOf};
-pub use linkinfo_data::{InfoData, InfoDataOf, InfoPortData};
+pub use linkinfo_data::{InfoData, InfoDataOf, InfoPortData, InfoPortDataOf};
 pub use linkinfo_names::{Explanation, attribute_name};
 pub use linkinfo_numbers::{
     IFLA_INFO_DATA, IFLA_INFO_KIND, IFLA_INFO_SLAVE_DATA, IFLA_INFO_SLAVE_KIND, IFLA_INFO_XSTATS,
@@ -108,6 +108,6 @@ pub use linkinfo_names::laws as name_laws;
 pub use linkinfo_numbers::laws as number_laws;
 pub use linkinfo_peers::laws as peer_laws;
 pub use linkinfo_shapes::laws as shape_laws;
-pub use linkinfo_table::{laws as family_laws, lower_laws};
+pub use linkinfo_table::{laws as family_laws, layer_laws, lower_laws};
 pub use linkinfo_tunnels::laws as tunnel_laws;
 pub use nla_frame::laws as frame_laws;

@@ -1,14 +1,17 @@
 //! Attributes of the list inside `IFLA_LINKINFO`, include/uapi/linux/if_link.h.
 
 use crate::xstats::LinkXstats;
-use linkinfo_data::{InfoDataOf, InfoPortData};
+use linkinfo_data::{DataLayer, InfoDataOf, InfoPortDataOf};
 use linkinfo_numbers::{IFLA_INFO_XSTATS, InfoKind, InfoPortKind};
-use linkinfo_table::LinkPeer;
+use linkinfo_table::LinkLayer;
 use nla_frame::{Bytes, DefaultNla, Emitable, ExactEq, Nla, fitting};
+use std::alloc::AllocError;
+use std::fmt::{self, Debug, Formatter, Write};
 
-/// An attribute in `IFLA_LINKINFO`, with peers of type `P`.
-#[derive(Debug, PartialEq, Eq, Clone, Drop)]
-pub enum LinkInfoOf<P> {
+/// An attribute in `IFLA_LINKINFO`, over the layer `P`: with peers of its type, and attributes of its
+/// families.
+#[derive(PartialEq, Eq, Drop)]
+pub enum LinkInfoOf<P: LinkLayer> {
     /// The statistics of the link (`IFLA_INFO_XSTATS`).
     Xstats(LinkXstats),
     /// The kind of the link (`IFLA_INFO_KIND`).
@@ -19,18 +22,50 @@ pub enum LinkInfoOf<P> {
     /// (`IFLA_INFO_SLAVE_KIND`).
     PortKind(InfoPortKind),
     /// The data of the port (`IFLA_INFO_SLAVE_DATA`).
-    PortData(InfoPortData),
+    PortData(InfoPortDataOf<P>),
     /// An attribute of any other type, kept verbatim.
     Other(DefaultNla),
 }
 
-/// An attribute in `IFLA_LINKINFO`, with peers kept as bytes.
+/// An attribute in `IFLA_LINKINFO`, with peers kept as bytes, and opaque families.
 pub type LinkInfo = LinkInfoOf<Bytes>;
 
-impl<P: LinkPeer> Nla for LinkInfoOf<P> {
+impl<P: LinkLayer + Debug> Debug for LinkInfoOf<P>
+where
+    P::Peer: Debug,
+{
+    fn fmt<W: Write>(&self, f: &mut Formatter<W>) -> fmt::Result {
+        match self {
+            LinkInfoOf::Xstats(value) => f.debug_tuple("Xstats").field(value).finish(),
+            LinkInfoOf::Kind(value) => f.debug_tuple("Kind").field(value).finish(),
+            LinkInfoOf::Data(value) => f.debug_tuple("Data").field(value).finish(),
+            LinkInfoOf::PortKind(value) => f.debug_tuple("PortKind").field(value).finish(),
+            LinkInfoOf::PortData(value) => f.debug_tuple("PortData").field(value).finish(),
+            LinkInfoOf::Other(value) => f.debug_tuple("Other").field(value).finish(),
+        }
+    }
+}
+
+impl<P: LinkLayer + Clone> Clone for LinkInfoOf<P>
+where
+    P::Peer: Clone,
+{
+    fn clone(&self) -> Result<LinkInfoOf<P>, AllocError> {
+        Ok(match self {
+            LinkInfoOf::Xstats(value) => LinkInfoOf::Xstats(value.clone()?),
+            LinkInfoOf::Kind(value) => LinkInfoOf::Kind(value.clone()?),
+            LinkInfoOf::Data(value) => LinkInfoOf::Data(value.clone()?),
+            LinkInfoOf::PortKind(value) => LinkInfoOf::PortKind(value.clone()?),
+            LinkInfoOf::PortData(value) => LinkInfoOf::PortData(value.clone()?),
+            LinkInfoOf::Other(value) => LinkInfoOf::Other(value.clone()?),
+        })
+    }
+}
+
+impl<P: DataLayer> Nla for LinkInfoOf<P> {
     ghost use Rattle.linkinfo.specs.Items.{link_attribute};
 
-    ghost attribute = { link_attribute P.LinkPeer.own };
+    ghost attribute = { link_attribute P.families };
 
     fn value_len(&self) -> usize {
         match self {
@@ -85,7 +120,7 @@ impl<P: LinkPeer> Nla for LinkInfoOf<P> {
     }
 }
 
-impl<P: ExactEq> ExactEq for LinkInfoOf<P> {
+impl<P: LinkLayer + PartialEq> ExactEq for LinkInfoOf<P> {
     ghost use Rattle.linkinfo.specs.declared.link_info.LinkInfoOf.TheVariants as info;
     ghost use Rattle.linkinfo_data.specs.Equal.{apart, under};
     ghost use Rattle.linkinfo.specs.contracts.xstats.LinkXstatsExactEq.TheImpl.Laws.{
@@ -94,12 +129,8 @@ impl<P: ExactEq> ExactEq for LinkInfoOf<P> {
     ghost use Rattle.linkinfo_numbers.specs.contracts.kind.InfoKindExactEq.TheImpl.Laws.{
       exact-law as kind_exact,
     };
-    ghost use Rattle.linkinfo_data.specs.DataEqual.{data_decides};
     ghost use Rattle.linkinfo_numbers.specs.contracts.port_kind.InfoPortKindExactEq.TheImpl.Laws.{
       exact-law as port_kind_exact,
-    };
-    ghost use Rattle.linkinfo_data.specs.contracts.port_data.InfoPortDataExactEq.TheImpl.Laws.{
-      exact-law as port_data_exact,
     };
     ghost use Rattle.nla_frame.specs.contracts.default_nla.DefaultNlaExactEq.TheImpl.Laws.{
       exact-law as kept_exact,
@@ -115,7 +146,7 @@ impl<P: ExactEq> ExactEq for LinkInfoOf<P> {
         | _ ↦ apart (λ e. cc)
       ]
       | info.Data x ↦ elim [
-        | info.Data y ↦ under (λ v. info.Data v) (λ e. cc) (data_decides P.ExactEq P.PartialEq x y)
+        | info.Data y ↦ under (λ v. info.Data v) (λ e. cc) (⟦<InfoDataOf<P> as ExactEq>⟧.exact x y)
         | _ ↦ apart (λ e. cc)
       ]
       | info.PortKind x ↦ elim [
@@ -123,7 +154,7 @@ impl<P: ExactEq> ExactEq for LinkInfoOf<P> {
         | _ ↦ apart (λ e. cc)
       ]
       | info.PortData x ↦ elim [
-        | info.PortData y ↦ under (λ v. info.PortData v) (λ e. cc) (port_data_exact x y)
+        | info.PortData y ↦ under (λ v. info.PortData v) (λ e. cc) (⟦<InfoPortDataOf<P> as ExactEq>⟧.exact x y)
         | _ ↦ apart (λ e. cc)
       ]
       | info.Other x ↦ elim [

@@ -24,8 +24,9 @@ ghost use Rattle.std.specs.Slice.Iter.{iter_rest};
 ghost use Rattle.std.specs.Prelude.{ℕ, List, [], ◌++◌, ◌%◌, map, Err, IfErr, IfOk, Ok, OnOk, true};
 ghost use Rattle.std.specs.List.{AllByRecursion};
 ghost use Rattle.linkinfo_table.specs.Calls.{Checks, Compares, Reads};
-ghost use Rattle.linkinfo_data.specs.BytesPeer.{bytes_peer};
+ghost use Rattle.linkinfo_data.specs.BytesLayer.{bytes_layer};
 ghost use Rattle.linkinfo.specs.Comparing.{either_error, same_answer, same_at_answer, same_counts};
+ghost use Rattle.linkinfo.specs.Layered.{Link, LinkList, Links};
 ghost use Rattle.linkinfo.specs.Items.{link_attribute};
 ghost use Rattle.linkinfo.specs.Roles.{no_kinds};
 ghost use Rattle.linkinfo.specs.Strings.{
@@ -41,29 +42,32 @@ ghost use Rattle.linkinfo.specs.Strings.{
 ghost use Rattle.linkinfo.specs.Walks.{headers_left, left, memory_left, values_left};
 
 use crate::item::{check_item, read_item, same_item};
+use crate::laws::equality;
 use crate::link_info::LinkInfoOf;
 use crate::placed::ErrorIn;
 use crate::role::{CurrentKinds, kinds_after, role_of};
 use crate::walk::LinkInfoWalk;
+use linkinfo_data::DataLayer;
 use linkinfo_data::laws::families_lawful;
-use linkinfo_table::LinkPeer;
+use linkinfo_table::LinkLayer;
 use nla_frame::{
     Bytes, DecodeError, ExactEq, HeaderCount, Nlas, ToVecError, next_attribute, nlas_to_vec,
 };
-use std::alloc::Global;
+use std::alloc::{AllocError, Global};
+use std::fmt::{self, Debug, Formatter, Write};
 use std::slice;
 
 /// Parses the attributes that a walk has not visited. The headers that the walk itself examines are
 /// not counted here.
-fn read_rest<P: LinkPeer>(
+fn read_rest<P: DataLayer>(
     alloc: Global,
     walk: &mut LinkInfoWalk<'_>,
     count: &mut HeaderCount,
 ) -> Result<Vec<LinkInfoOf<P>>, DecodeError>
     requires { 4 * (count.old + walk.old.attributes.examined) + length (left walk.old)
         < 4 * 2 ^ 64 }
-    ensures { Reads (λ v. v.items) result (values_left P.LinkPeer.own walk.old)
-        (memory_left P.LinkPeer.own walk.old) (headers_left P.LinkPeer.own walk.old)
+    ensures { Reads (λ v. v.items) result (values_left P.families walk.old)
+        (memory_left P.families walk.old) (headers_left P.families walk.old)
         (length (left walk.old)) (count.old + walk.old.attributes.examined)
         (count.new + walk.new.attributes.examined) }
 {
@@ -81,14 +85,14 @@ fn read_rest<P: LinkPeer>(
 /// Validates the attributes that a walk has not visited, as `read_rest` parses them. Does not
 /// allocate.
 #[inline(always)]
-fn check_rest<P: LinkPeer>(
+fn check_rest<P: DataLayer>(
     walk: &mut LinkInfoWalk<'_>,
     count: &mut HeaderCount,
 ) -> Result<(), DecodeError>
     requires { 4 * (count.old + walk.old.attributes.examined) + length (left walk.old)
         < 4 * 2 ^ 64 }
-    ensures { Checks result (verdict (values_left P.LinkPeer.own walk.old))
-        (headers_left P.LinkPeer.own walk.old) (length (left walk.old))
+    ensures { Checks result (verdict (values_left P.families walk.old))
+        (headers_left P.families walk.old) (length (left walk.old))
         (count.old + walk.old.attributes.examined) (count.new + walk.new.attributes.examined) }
 {
     while let Some(next) = walk.advance() {
@@ -100,14 +104,14 @@ fn check_rest<P: LinkPeer>(
 
 /// Returns whether two accepted byte strings are equivalent, attribute by attribute, each pair
 /// under the current kinds in the first. Does not allocate.
-fn same_strings<P: LinkPeer>(a: &[u8], b: &[u8], count: &mut HeaderCount) -> bool
-    requires first { IsOk (values_from P.LinkPeer.own no_kinds (nla_items a.now)) }
-    requires second { IsOk (values_from P.LinkPeer.own no_kinds (nla_items b.now)) }
+fn same_strings<P: DataLayer>(a: &[u8], b: &[u8], count: &mut HeaderCount) -> bool
+    requires first { IsOk (values_from P.families no_kinds (nla_items a.now)) }
+    requires second { IsOk (values_from P.families no_kinds (nla_items b.now)) }
     requires room { count.old + (length a.now + length b.now) / 4 < 2 ^ 64 }
     ensures { Compares result
-        (alike_from P.LinkPeer.own no_kinds (nla_items a.now) (nla_items b.now))
-        (headers_from P.LinkPeer.own no_kinds (nla_items a.now)
-        + headers_from P.LinkPeer.own no_kinds (nla_items b.now))
+        (alike_from P.families no_kinds (nla_items a.now) (nla_items b.now))
+        (headers_from P.families no_kinds (nla_items a.now)
+        + headers_from P.families no_kinds (nla_items b.now))
         (length a.now + length b.now) count.old count.new }
 {
     let mut x = a;
@@ -133,11 +137,11 @@ fn same_strings<P: LinkPeer>(a: &[u8], b: &[u8], count: &mut HeaderCount) -> boo
 /// Validates a whole byte string, and counts each header once.
 #[inline(always)]
 #[tactic(auto, unfolding(crate::specs::Strings::reading, crate::specs::Strings::headers_of_string))]
-fn check_string<P: LinkPeer>(bytes: &[u8], count: &mut HeaderCount) -> Result<(), DecodeError>
+fn check_string<P: DataLayer>(bytes: &[u8], count: &mut HeaderCount) -> Result<(), DecodeError>
     requires { count.old + length bytes.now / 4 < 2 ^ 64 }
-    ensures answer { result ≡ verdict (reading P.LinkPeer.own bytes.now) }
+    ensures answer { result ≡ verdict (reading P.families bytes.now) }
     ensures no_memory { result ≢ Err memory_error }
-    ensures counted { count.new ≡ count.old + headers_of_string P.LinkPeer.own bytes.now }
+    ensures counted { count.new ≡ count.old + headers_of_string P.families bytes.now }
     ensures quarter { 4 * count.new ≤ 4 * count.old + length bytes.now }
 {
     families_lawful::<P>();
@@ -147,29 +151,47 @@ fn check_string<P: LinkPeer>(bytes: &[u8], count: &mut HeaderCount) -> Result<()
     answer
 }
 
-/// The contents of `IFLA_LINKINFO` (include/uapi/linux/if_link.h): a list of attributes, with peers
-/// of type `P`.
+/// The contents of `IFLA_LINKINFO` (include/uapi/linux/if_link.h): a list of attributes, over
+/// the layer `P`.
 ///
 /// It is built from a `Vec` by `From`, iterated over by `iter` or a `for` loop, and serialized by
 /// `to_vec`. To serialize it into an existing buffer, call `nlas_fit_len` and `emit_nlas` on
 /// `as_slice`.
-#[derive(Debug, PartialEq, Eq, Clone, Drop)]
-pub struct VecLinkInfoOf<P>(pub Nlas<LinkInfoOf<P>>);
+#[derive(PartialEq, Eq, Drop)]
+pub struct VecLinkInfoOf<P: LinkLayer>(pub Nlas<LinkInfoOf<P>>);
 
-/// The contents of `IFLA_LINKINFO`: a list of attributes, with peers kept as bytes.
+impl<P: LinkLayer + Debug> Debug for VecLinkInfoOf<P>
+where
+    P::Peer: Debug,
+{
+    fn fmt<W: Write>(&self, f: &mut Formatter<W>) -> fmt::Result {
+        f.debug_tuple("VecLinkInfoOf").field(&self.0).finish()
+    }
+}
+
+impl<P: LinkLayer + Clone> Clone for VecLinkInfoOf<P>
+where
+    P::Peer: Clone,
+{
+    fn clone(&self) -> Result<VecLinkInfoOf<P>, AllocError> {
+        Ok(VecLinkInfoOf(self.0.clone()?))
+    }
+}
+
+/// The contents of `IFLA_LINKINFO`: a list of attributes, with peers kept as bytes, and opaque
+/// families.
 pub type VecLinkInfo = VecLinkInfoOf<Bytes>;
 
-impl<P: ExactEq> ExactEq for VecLinkInfoOf<P> {
+impl<P: LinkLayer + PartialEq> ExactEq for VecLinkInfoOf<P> {
     ghost use Rattle.std.specs.Prelude.{refl};
     ghost use Rattle.std.specs.Cmp.Lexicographic.{pointwise_decides};
     ghost use Rattle.nla_frame.specs.Derived.{fields_decide};
-    ghost use Rattle.linkinfo.specs.LinkEqual.{link_decides};
 
     ghost exact = { fields_decide (λ list. list.0) (λ items. record { 0 = items }) (λ list. refl)
-        (pointwise_decides (link_decides P.ExactEq P.PartialEq)) };
+        (pointwise_decides ⟦<LinkInfoOf<P> as ExactEq>⟧.exact) };
 }
 
-impl<P> VecLinkInfoOf<P> {
+impl<P: LinkLayer> VecLinkInfoOf<P> {
     /// Returns the `Vec` of the attributes.
     pub fn into_vec(self) -> Vec<LinkInfoOf<P>>
         ensures { result.items ≡ self.0 }
@@ -182,16 +204,6 @@ impl<P> VecLinkInfoOf<P> {
         ensures { result.now ≡ self.now.0 }
     {
         self.0.as_slice()
-    }
-
-    /// Iterates over the attributes in order, by reference.
-    pub fn iter(&self) -> slice::Iter<'_, LinkInfoOf<P>>
-        ensures rest { iter_rest result ≡ self.now.0 }
-        ensures bound { length (iter_rest result) < 2 ^ 64 }
-        ensures runs { IterYieldsInOrder (LinkInfoOf P) }
-        ensures runs_back { IterYieldsInReverse (LinkInfoOf P) }
-    {
-        self.0.iter()
     }
 
     /// Returns the number of attributes.
@@ -209,7 +221,17 @@ impl<P> VecLinkInfoOf<P> {
     }
 }
 
-impl<P: LinkPeer> VecLinkInfoOf<P> {
+impl<P: DataLayer> VecLinkInfoOf<P> {
+    /// Iterates over the attributes in order, by reference.
+    pub fn iter(&self) -> slice::Iter<'_, LinkInfoOf<P>>
+        ensures rest { iter_rest result ≡ self.now.0 }
+        ensures bound { length (iter_rest result) < 2 ^ 64 }
+        ensures runs { IterYieldsInOrder (Link P.families) }
+        ensures runs_back { IterYieldsInReverse (Link P.families) }
+    {
+        self.0.iter()
+    }
+
     /// Parses the contents of `IFLA_LINKINFO` as `parse` does, and counts the headers examined at
     /// all levels: at most a quarter of the bytes. Requires a counter at zero.
     #[tactic(auto, unfolding(crate::specs::Strings::reading, crate::specs::Strings::headers_of_string, crate::specs::Strings::reading_needs_memory))]
@@ -219,11 +241,11 @@ impl<P: LinkPeer> VecLinkInfoOf<P> {
         count: &mut HeaderCount,
     ) -> Result<VecLinkInfoOf<P>, DecodeError>
         requires { count.old ≡ 0 }
-        ensures answer { Gives (λ list. list.0) result (reading P.LinkPeer.own bytes.now) }
+        ensures answer { Gives (λ list. list.0) result (reading P.families bytes.now) }
         ensures certain { CertainUnless
-            (reading_needs_memory P.LinkPeer.own bytes.now) (λ list. list.0) result
-            (reading P.LinkPeer.own bytes.now) }
-        ensures counted { OnAnswer result (count.new ≡ headers_of_string P.LinkPeer.own bytes.now) }
+            (reading_needs_memory P.families bytes.now) (λ list. list.0) result
+            (reading P.families bytes.now) }
+        ensures counted { OnAnswer result (count.new ≡ headers_of_string P.families bytes.now) }
         ensures quarter { count.new ≤ length bytes.now / 4 }
     {
         let mut walk = LinkInfoWalk::new(bytes);
@@ -243,26 +265,26 @@ impl<P: LinkPeer> VecLinkInfoOf<P> {
     /// allocating. If the first attribute is rejected by its own header, name or order, that error
     /// is returned even if memory is short.
     pub fn parse(alloc: Global, bytes: &[u8]) -> Result<VecLinkInfoOf<P>, DecodeError>
-        ensures answer { Gives (λ list. list.0) result (reading P.LinkPeer.own bytes.now) }
+        ensures answer { Gives (λ list. list.0) result (reading P.families bytes.now) }
         ensures certain { CertainUnless
-            (reading_needs_memory P.LinkPeer.own bytes.now) (λ list. list.0) result
-            (reading P.LinkPeer.own bytes.now) }
+            (reading_needs_memory P.families bytes.now) (λ list. list.0) result
+            (reading P.families bytes.now) }
 
         // A parsed list is well formed.
-        ensures well_formed { (xs : List (LinkInfoOf P)) →
-            reading P.LinkPeer.own bytes.now ≡ Ok xs → WellFormed P.LinkPeer.own xs }
+        ensures well_formed { (xs : Links P.families) →
+            reading P.families bytes.now ≡ Ok xs → WellFormed P.families xs }
 
         // The canonical encoding of a list that fits parses back as that list exactly when the list
         // is well formed.
-        ensures canonical { (xs : List (LinkInfoOf P)) →
-            AllByRecursion Fits (map (link_attribute P.LinkPeer.own) xs) →
-            bytes.now ≡ list_string (map (link_attribute P.LinkPeer.own) xs) →
-            (reading P.LinkPeer.own bytes.now ≡ Ok xs) ↔ WellFormed P.LinkPeer.own xs }
+        ensures canonical { (xs : Links P.families) →
+            AllByRecursion Fits (map (link_attribute P.families) xs) →
+            bytes.now ≡ list_string (map (link_attribute P.families) xs) →
+            (reading P.families bytes.now ≡ Ok xs) ↔ WellFormed P.families xs }
 
         // Accepted byte strings, one after the other, parse as their lists, one after the other.
-        ensures appended { (a b : List ℕ) (xs ys : List (LinkInfoOf P)) → length a % 4 ≡ 0 →
-            bytes.now ≡ a ++ b → reading P.LinkPeer.own a ≡ Ok xs →
-            reading P.LinkPeer.own b ≡ Ok ys → reading P.LinkPeer.own bytes.now ≡ Ok (xs ++ ys) }
+        ensures appended { (a b : List ℕ) (xs ys : Links P.families) → length a % 4 ≡ 0 →
+            bytes.now ≡ a ++ b → reading P.families a ≡ Ok xs →
+            reading P.families b ≡ Ok ys → reading P.families bytes.now ≡ Ok (xs ++ ys) }
     {
         families_lawful::<P>();
         let mut count = HeaderCount::new();
@@ -280,10 +302,10 @@ impl<P: LinkPeer> VecLinkInfoOf<P> {
     /// ```
     pub fn to_vec(&self, alloc: Global) -> Result<Vec<u8>, ToVecError>
         ensures string { IfOk result (λ bytes. bytes.items
-            ≡ list_string (map (link_attribute P.LinkPeer.own) self.now.0)) }
-        ensures fits { OnOk result (ListFits (map (link_attribute P.LinkPeer.own) self.now.0)) }
+            ≡ list_string (map (link_attribute P.families) self.now.0)) }
+        ensures fits { OnOk result (ListFits (map (link_attribute P.families) self.now.0)) }
         ensures unfit { (result ≡ Err refused.Unfit)
-            ↔ ¬ ListFits (map (link_attribute P.LinkPeer.own) self.now.0) }
+            ↔ ¬ ListFits (map (link_attribute P.families) self.now.0) }
         ensures certain { self.now.0 ≡ [] → IsOk result }
     {
         nlas_to_vec(alloc, self.as_slice())
@@ -293,8 +315,8 @@ impl<P: LinkPeer> VecLinkInfoOf<P> {
 /// Validates the contents of `IFLA_LINKINFO`, with peers of type `P`: returns `Ok` if
 /// `VecLinkInfoOf::parse` accepts them, otherwise the error of the bytes. Each header is examined
 /// once. Does not allocate.
-pub fn check_of<P: LinkPeer>(bytes: &[u8]) -> Result<(), DecodeError>
-    ensures answer { result ≡ verdict (reading P.LinkPeer.own bytes.now) }
+pub fn check_of<P: DataLayer>(bytes: &[u8]) -> Result<(), DecodeError>
+    ensures answer { result ≡ verdict (reading P.families bytes.now) }
     ensures no_memory { result ≢ Err memory_error }
 {
     let mut count = HeaderCount::new();
@@ -303,14 +325,14 @@ pub fn check_of<P: LinkPeer>(bytes: &[u8]) -> Result<(), DecodeError>
 
 /// Validates the contents of `IFLA_LINKINFO` as `check_of` does, and counts the headers examined at
 /// all levels: at most a quarter of the bytes. Requires a counter at zero. Does not allocate.
-pub fn check_counted_of<P: LinkPeer>(
+pub fn check_counted_of<P: DataLayer>(
     bytes: &[u8],
     count: &mut HeaderCount,
 ) -> Result<(), DecodeError>
     requires { count.old ≡ 0 }
-    ensures answer { result ≡ verdict (reading P.LinkPeer.own bytes.now) }
+    ensures answer { result ≡ verdict (reading P.families bytes.now) }
     ensures no_memory { result ≢ Err memory_error }
-    ensures counted { count.new ≡ headers_of_string P.LinkPeer.own bytes.now }
+    ensures counted { count.new ≡ headers_of_string P.families bytes.now }
     ensures quarter { count.new ≤ length bytes.now / 4 }
 {
     check_string::<P>(bytes, count)
@@ -320,18 +342,18 @@ pub fn check_counted_of<P: LinkPeer>(
 /// all levels: at most half as many as both have bytes. Requires a counter at zero. Does not
 /// allocate.
 #[tactic(auto, unfolding(crate::specs::Strings::reading, crate::specs::Strings::headers_of_string, crate::specs::Strings::alike_strings))]
-pub fn same_counted_of<P: LinkPeer>(
+pub fn same_counted_of<P: DataLayer>(
     a: &[u8],
     b: &[u8],
     count: &mut HeaderCount,
 ) -> Result<bool, DecodeError>
     requires { count.old ≡ 0 }
-    ensures answer { result ≡ same_answer (reading P.LinkPeer.own a.now)
-        (reading P.LinkPeer.own b.now) (alike_strings P.LinkPeer.own a.now b.now) }
+    ensures answer { result ≡ same_answer (reading P.families a.now)
+        (reading P.families b.now) (alike_strings P.families a.now b.now) }
     ensures no_memory { result ≢ Err memory_error }
-    ensures counted { same_counts result (reading P.LinkPeer.own a.now)
-        (headers_of_string P.LinkPeer.own a.now)
-        (headers_of_string P.LinkPeer.own b.now) count.new }
+    ensures counted { same_counts result (reading P.families a.now)
+        (headers_of_string P.families a.now)
+        (headers_of_string P.families b.now) count.new }
     ensures half { count.new ≤ (length a.now + length b.now) / 2 }
 {
     check_string::<P>(a, count)?;
@@ -340,10 +362,10 @@ pub fn same_counted_of<P: LinkPeer>(
 }
 
 /// A law, without code: an accepted byte string is equivalent to one of equal bytes.
-fn equal_bytes_are_same<P: LinkPeer>(a: &[u8], b: &[u8])
-    ensures { a.now ≡ b.now → Ok tt ≡ verdict (reading P.LinkPeer.own a.now) →
-        Ok true ≡ same_at_answer (reading P.LinkPeer.own a.now) (reading P.LinkPeer.own b.now)
-        (alike_strings P.LinkPeer.own a.now b.now) }
+fn equal_bytes_are_same<P: DataLayer>(a: &[u8], b: &[u8])
+    ensures { a.now ≡ b.now → Ok tt ≡ verdict (reading P.families a.now) →
+        Ok true ≡ same_at_answer (reading P.families a.now) (reading P.families b.now)
+        (alike_strings P.families a.now b.now) }
 {
     families_lawful::<P>();
 }
@@ -351,9 +373,9 @@ fn equal_bytes_are_same<P: LinkPeer>(a: &[u8], b: &[u8])
 /// Returns whether two lists are equivalent, with peers of type `P`. The error is that of the first
 /// list, otherwise that of the second, and says which of the two has it. Does not allocate.
 #[tactic(auto, unfolding(crate::specs::Strings::reading, crate::specs::Strings::alike_strings))]
-pub fn same_at_of<P: LinkPeer>(a: &[u8], b: &[u8]) -> Result<bool, ErrorIn>
-    ensures answer { result ≡ same_at_answer (reading P.LinkPeer.own a.now)
-        (reading P.LinkPeer.own b.now) (alike_strings P.LinkPeer.own a.now b.now) }
+pub fn same_at_of<P: DataLayer>(a: &[u8], b: &[u8]) -> Result<bool, ErrorIn>
+    ensures answer { result ≡ same_at_answer (reading P.families a.now)
+        (reading P.families b.now) (alike_strings P.families a.now b.now) }
     ensures no_memory { IfErr result (λ at. either_error at ≢ memory_error) }
 {
     equal_bytes_are_same::<P>(a, b);
@@ -373,9 +395,9 @@ pub fn same_at_of<P: LinkPeer>(a: &[u8], b: &[u8]) -> Result<bool, ErrorIn>
 }
 
 /// The result of `same_counted_of`, without counting.
-fn same_uncounted<P: LinkPeer>(a: &[u8], b: &[u8]) -> Result<bool, DecodeError>
-    ensures answer { result ≡ same_answer (reading P.LinkPeer.own a.now)
-        (reading P.LinkPeer.own b.now) (alike_strings P.LinkPeer.own a.now b.now) }
+fn same_uncounted<P: DataLayer>(a: &[u8], b: &[u8]) -> Result<bool, DecodeError>
+    ensures answer { result ≡ same_answer (reading P.families a.now)
+        (reading P.families b.now) (alike_strings P.families a.now b.now) }
     ensures no_memory { result ≢ Err memory_error }
 {
     match same_at_of::<P>(a, b) {
@@ -393,29 +415,30 @@ fn same_uncounted<P: LinkPeer>(a: &[u8], b: &[u8]) -> Result<bool, DecodeError>
 /// It compares two requests, or two canonical encodings. A request and the link that the kernel
 /// made for it are rarely equivalent, since the kernel adds attributes: compare these by
 /// `first_unmet_of`.
-pub fn same_of<P: LinkPeer>(a: &[u8], b: &[u8]) -> Result<bool, DecodeError>
-    ensures answer { result ≡ same_answer (reading P.LinkPeer.own a.now)
-        (reading P.LinkPeer.own b.now) (alike_strings P.LinkPeer.own a.now b.now) }
+pub fn same_of<P: DataLayer>(a: &[u8], b: &[u8]) -> Result<bool, DecodeError>
+    ensures answer { result ≡ same_answer (reading P.families a.now)
+        (reading P.families b.now) (alike_strings P.families a.now b.now) }
     ensures no_memory { result ≢ Err memory_error }
 
     // Equivalent byte strings are those that mean equal lists.
-    ensures equal { IfOk result (λ same. IsTrue same ↔ (reading P.LinkPeer.own a.now
-        ≡ reading P.LinkPeer.own b.now)) }
+    ensures equal { IfOk result (λ same. IsTrue same ↔ (reading P.families a.now
+        ≡ reading P.families b.now)) }
 
     // The result is that of `==` on the two lists that are parsed.
-    ensures values { (x y : VecLinkInfoOf P) → reading P.LinkPeer.own a.now ≡ Ok x.0 →
-        reading P.LinkPeer.own b.now ≡ Ok y.0 →
+    ensures values { (x y : LinkList P.families) → reading P.families a.now ≡ Ok x.0 →
+        reading P.families b.now ≡ Ok y.0 →
         result ≡ Ok (⟦<VecLinkInfoOf<P> as PartialEq>⟧.eq x y) }
 
     // If both lists fit, equivalent byte strings are those with one canonical encoding.
-    ensures canonical { (xs ys : List (LinkInfoOf P)) → reading P.LinkPeer.own a.now ≡ Ok xs →
-        reading P.LinkPeer.own b.now ≡ Ok ys →
-        AllByRecursion Fits (map (link_attribute P.LinkPeer.own) xs) →
-        AllByRecursion Fits (map (link_attribute P.LinkPeer.own) ys) →
-        IfOk result (λ same. IsTrue same ↔ (list_string (map (link_attribute P.LinkPeer.own) xs)
-        ≡ list_string (map (link_attribute P.LinkPeer.own) ys))) }
+    ensures canonical { (xs ys : Links P.families) → reading P.families a.now ≡ Ok xs →
+        reading P.families b.now ≡ Ok ys →
+        AllByRecursion Fits (map (link_attribute P.families) xs) →
+        AllByRecursion Fits (map (link_attribute P.families) ys) →
+        IfOk result (λ same. IsTrue same ↔ (list_string (map (link_attribute P.families) xs)
+        ≡ list_string (map (link_attribute P.families) ys))) }
 {
     families_lawful::<P>();
+    equality::<LinkInfoOf<P>>();
     same_uncounted::<P>(a, b)
 }
 
@@ -423,7 +446,7 @@ pub fn same_of<P: LinkPeer>(a: &[u8], b: &[u8]) -> Result<bool, DecodeError>
 /// otherwise the error of the bytes. Peers are kept as bytes; `check_of` takes other types of peer.
 /// Does not allocate.
 pub fn check(bytes: &[u8]) -> Result<(), DecodeError>
-    ensures answer { result ≡ verdict (reading bytes_peer bytes.now) }
+    ensures answer { result ≡ verdict (reading bytes_layer bytes.now) }
     ensures no_memory { result ≢ Err memory_error }
 {
     check_of::<Bytes>(bytes)
@@ -433,9 +456,9 @@ pub fn check(bytes: &[u8]) -> Result<(), DecodeError>
 /// all levels: at most a quarter of the bytes. Requires a counter at zero. Does not allocate.
 pub fn check_counted(bytes: &[u8], count: &mut HeaderCount) -> Result<(), DecodeError>
     requires { count.old ≡ 0 }
-    ensures answer { result ≡ verdict (reading bytes_peer bytes.now) }
+    ensures answer { result ≡ verdict (reading bytes_layer bytes.now) }
     ensures no_memory { result ≢ Err memory_error }
-    ensures counted { count.new ≡ headers_of_string bytes_peer bytes.now }
+    ensures counted { count.new ≡ headers_of_string bytes_layer bytes.now }
     ensures quarter { count.new ≤ length bytes.now / 4 }
 {
     check_counted_of::<Bytes>(bytes, count)
@@ -446,27 +469,27 @@ pub fn check_counted(bytes: &[u8], count: &mut HeaderCount) -> Result<(), Decode
 /// types of peer. Does not allocate.
 pub fn same(a: &[u8], b: &[u8]) -> Result<bool, DecodeError>
     ensures answer { result
-        ≡ same_answer (reading bytes_peer a.now) (reading bytes_peer b.now)
-        (alike_strings bytes_peer a.now b.now) }
+        ≡ same_answer (reading bytes_layer a.now) (reading bytes_layer b.now)
+        (alike_strings bytes_layer a.now b.now) }
     ensures no_memory { result ≢ Err memory_error }
 
     // Equivalent byte strings are those that mean equal lists.
     ensures equal { IfOk result
-        (λ same. IsTrue same ↔ (reading bytes_peer a.now ≡ reading bytes_peer b.now)) }
+        (λ same. IsTrue same ↔ (reading bytes_layer a.now ≡ reading bytes_layer b.now)) }
 
     // The result is that of `==` on the two lists that are parsed.
-    ensures values { (x y : VecLinkInfoOf Bytes) → reading bytes_peer a.now ≡ Ok x.0 →
-        reading bytes_peer b.now ≡ Ok y.0 →
+    ensures values { (x y : LinkList bytes_layer) → reading bytes_layer a.now ≡ Ok x.0 →
+        reading bytes_layer b.now ≡ Ok y.0 →
         result ≡ Ok (⟦<VecLinkInfoOf<Bytes> as PartialEq>⟧.eq x y) }
 
     // If both lists fit, equivalent byte strings are those with one canonical encoding.
-    ensures canonical { (xs ys : List (LinkInfoOf Bytes)) → reading bytes_peer a.now ≡ Ok xs →
-        reading bytes_peer b.now ≡ Ok ys →
-        AllByRecursion Fits (map (link_attribute bytes_peer) xs) →
-        AllByRecursion Fits (map (link_attribute bytes_peer) ys) →
+    ensures canonical { (xs ys : Links bytes_layer) → reading bytes_layer a.now ≡ Ok xs →
+        reading bytes_layer b.now ≡ Ok ys →
+        AllByRecursion Fits (map (link_attribute bytes_layer) xs) →
+        AllByRecursion Fits (map (link_attribute bytes_layer) ys) →
         IfOk result (λ same. IsTrue same
-        ↔ (list_string (map (link_attribute bytes_peer) xs)
-        ≡ list_string (map (link_attribute bytes_peer) ys))) }
+        ↔ (list_string (map (link_attribute bytes_layer) xs)
+        ≡ list_string (map (link_attribute bytes_layer) ys))) }
 {
     same_of::<Bytes>(a, b)
 }
@@ -476,11 +499,11 @@ pub fn same(a: &[u8], b: &[u8]) -> Result<bool, DecodeError>
 pub fn same_counted(a: &[u8], b: &[u8], count: &mut HeaderCount) -> Result<bool, DecodeError>
     requires { count.old ≡ 0 }
     ensures answer { result
-        ≡ same_answer (reading bytes_peer a.now) (reading bytes_peer b.now)
-        (alike_strings bytes_peer a.now b.now) }
+        ≡ same_answer (reading bytes_layer a.now) (reading bytes_layer b.now)
+        (alike_strings bytes_layer a.now b.now) }
     ensures no_memory { result ≢ Err memory_error }
-    ensures counted { same_counts result (reading bytes_peer a.now)
-        (headers_of_string bytes_peer a.now) (headers_of_string bytes_peer b.now) count.new }
+    ensures counted { same_counts result (reading bytes_layer a.now)
+        (headers_of_string bytes_layer a.now) (headers_of_string bytes_layer b.now) count.new }
     ensures half { count.new ≤ (length a.now + length b.now) / 2 }
 {
     same_counted_of::<Bytes>(a, b, count)
@@ -499,8 +522,8 @@ pub fn same_counted(a: &[u8], b: &[u8], count: &mut HeaderCount) -> Result<bool,
 /// ```
 pub fn same_at(a: &[u8], b: &[u8]) -> Result<bool, ErrorIn>
     ensures answer { result
-        ≡ same_at_answer (reading bytes_peer a.now) (reading bytes_peer b.now)
-        (alike_strings bytes_peer a.now b.now) }
+        ≡ same_at_answer (reading bytes_layer a.now) (reading bytes_layer b.now)
+        (alike_strings bytes_layer a.now b.now) }
     ensures no_memory { IfErr result (λ at. either_error at ≢ memory_error) }
 {
     same_at_of::<Bytes>(a, b)

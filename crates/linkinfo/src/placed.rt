@@ -1,7 +1,7 @@
 //! The first error of a list, with its offsets.
 
 ghost use Rattle.std.specs.Prelude.{◌≡◌, ◌+◌, ◌≤◌, Err, IfErr, IsOk, MatchResult, length};
-ghost use Rattle.linkinfo_data.specs.BytesPeer.{bytes_peer};
+ghost use Rattle.linkinfo_data.specs.BytesLayer.{bytes_layer};
 ghost use Rattle.linkinfo.specs.Comparing.{either_error};
 ghost use Rattle.linkinfo.specs.Placed.{IsErrorAt, IsRejectedAt, error_in, error_in_payload};
 ghost use Rattle.linkinfo.specs.Strings.{reading};
@@ -10,11 +10,10 @@ use crate::item::check_item;
 use crate::role::Role;
 use crate::walk::LinkInfoWalk;
 use linkinfo_data::{
-    DataFamily, InfoDataOf, InfoPortData, PayloadFamily, PortFamily, family_of, list_error,
-    port_family_of,
+    DataFamily, DataLayer, InfoDataOf, InfoPortDataOf, PayloadFamily, PortFamily, family_of,
+    list_error, port_family_of,
 };
 use linkinfo_names::Explanation;
-use linkinfo_table::LinkPeer;
 use nla_frame::{Bytes, DecodeError, ExactEq, HeaderCount, NlaBuffer};
 use std::error::Error;
 use std::fmt;
@@ -113,8 +112,8 @@ fn error_in_payload<D: Drop, F: PayloadFamily<D>>(family: F, payload: &[u8]) -> 
 }
 
 /// The offset of the error of a rejected attribute of the list, in bytes from its header.
-fn error_in<P: LinkPeer>(nla: &NlaBuffer<'_>, role: Role) -> usize
-    ensures offset { result ≡ error_in P.LinkPeer.own role nla.now }
+fn error_in<P: DataLayer>(nla: &NlaBuffer<'_>, role: Role) -> usize
+    ensures offset { result ≡ error_in P.families role nla.now }
     ensures within { result ≤ 4 + length nla.now.value }
 {
     match role {
@@ -122,7 +121,7 @@ fn error_in<P: LinkPeer>(nla: &NlaBuffer<'_>, role: Role) -> usize
             error_in_payload::<InfoDataOf<P>, DataFamily>(family_of(tag), nla.value())
         }
         Role::PortData(tag) => {
-            error_in_payload::<InfoPortData, PortFamily>(port_family_of(tag), nla.value())
+            error_in_payload::<InfoPortDataOf<P>, PortFamily>(port_family_of(tag), nla.value())
         }
         _ => 0,
     }
@@ -134,12 +133,12 @@ fn error_in<P: LinkPeer>(nla: &NlaBuffer<'_>, role: Role) -> usize
 /// The offset `place` is that of an attribute of the list: for an error inside data, port data or a
 /// list in them, it is that of the data's own header. Each header is examined once, those of
 /// rejected data up to three times. Does not allocate.
-pub fn check_at_of<P: LinkPeer>(bytes: &[u8]) -> Result<(), ErrorAt>
-    ensures answer { MatchResult result (λ _. IsOk (reading P.LinkPeer.own bytes.now))
-        (λ at. reading P.LinkPeer.own bytes.now ≡ Err at.error) }
-    ensures place { IfErr result (λ at. IsRejectedAt P.LinkPeer.own bytes.now at.error at.place) }
+pub fn check_at_of<P: DataLayer>(bytes: &[u8]) -> Result<(), ErrorAt>
+    ensures answer { MatchResult result (λ _. IsOk (reading P.families bytes.now))
+        (λ at. reading P.families bytes.now ≡ Err at.error) }
+    ensures place { IfErr result (λ at. IsRejectedAt P.families bytes.now at.error at.place) }
     ensures inner { IfErr result
-        (λ at. IsErrorAt P.LinkPeer.own bytes.now at.error at.place at.inner) }
+        (λ at. IsErrorAt P.families bytes.now at.error at.place at.inner) }
 {
     let mut walk = LinkInfoWalk::new(bytes);
     let mut count = HeaderCount::new();
@@ -179,10 +178,10 @@ pub fn check_at_of<P: LinkPeer>(bytes: &[u8]) -> Result<(), ErrorAt>
 /// }
 /// ```
 pub fn check_at(bytes: &[u8]) -> Result<(), ErrorAt>
-    ensures answer { MatchResult result (λ _. IsOk (reading bytes_peer bytes.now))
-        (λ at. reading bytes_peer bytes.now ≡ Err at.error) }
-    ensures place { IfErr result (λ at. IsRejectedAt bytes_peer bytes.now at.error at.place) }
-    ensures inner { IfErr result (λ at. IsErrorAt bytes_peer bytes.now at.error at.place at.inner) }
+    ensures answer { MatchResult result (λ _. IsOk (reading bytes_layer bytes.now))
+        (λ at. reading bytes_layer bytes.now ≡ Err at.error) }
+    ensures place { IfErr result (λ at. IsRejectedAt bytes_layer bytes.now at.error at.place) }
+    ensures inner { IfErr result (λ at. IsErrorAt bytes_layer bytes.now at.error at.place at.inner) }
 {
     check_at_of::<Bytes>(bytes)
 }

@@ -16,7 +16,7 @@ ghost use Rattle.nla_frame.specs.declared.error.Family.TheVariants as family;
 ghost use Rattle.std.specs.Option.{option_copied, option_map};
 ghost use Rattle.linkinfo_table.specs.Last.{attributes_of, covers};
 ghost use Rattle.linkinfo_data.specs.Unmet.{first_told};
-ghost use Rattle.linkinfo_data.specs.BytesPeer.{bytes_peer};
+ghost use Rattle.linkinfo_data.specs.BytesLayer.{bytes_layer};
 ghost use Rattle.linkinfo.specs.Items.{item_alike, item_meaning};
 ghost use Rattle.linkinfo.specs.Strings.{reading};
 ghost use Rattle.linkinfo.specs.Unmet.{
@@ -39,14 +39,14 @@ use crate::list::check_of;
 use crate::placed::ErrorIn;
 use crate::role::{CurrentKinds, Role, role_of};
 use linkinfo_data::{
-    DataFamily, InfoDataOf, InfoPortData, PayloadFamily, PortFamily, Unmet, UnmetAt, earlier,
-    family_of, list_unmet, port_family_of, same_payloads,
+    DataFamily, DataLayer, InfoDataOf, InfoPortDataOf, PayloadFamily, PortFamily, Unmet, UnmetAt,
+    earlier, family_of, list_unmet, port_family_of, same_payloads,
 };
 use linkinfo_numbers::{
     IFLA_INFO_DATA, IFLA_INFO_KIND, IFLA_INFO_SLAVE_DATA, IFLA_INFO_SLAVE_KIND, IFLA_INFO_XSTATS,
     port_tag_of_name, tag_of_name,
 };
-use linkinfo_table::{INDEXED, LastOfType, LinkPeer, PlacedNla, types_end};
+use linkinfo_table::{INDEXED, LastOfType, PlacedNla, types_end};
 use nla_frame::{Bytes, Family, HeaderCount, NlaBuffer, next_attribute, without_nul};
 
 /// The names of the current kinds.
@@ -207,16 +207,16 @@ fn belongs_to_a_kind(kind: u16) -> bool
 }
 
 /// What of an attribute of `want` the last one of its type in `have` does not meet.
-fn placed_unmet<P: LinkPeer>(
+fn placed_unmet<P: DataLayer>(
     have: &[u8],
     found: &Option<PlacedNla<'_>>,
     want: &[u8],
     placed: &PlacedNla<'_>,
 ) -> Option<Unmet>
-    requires have { IfSome found.now (λ p. IsAcceptedLink P.LinkPeer.own (link_at have.now p)) }
-    requires want { IsAcceptedLink P.LinkPeer.own (link_at want.now placed.now) }
+    requires have { IfSome found.now (λ p. IsAcceptedLink P.families (link_at have.now p)) }
+    requires want { IsAcceptedLink P.families (link_at want.now placed.now) }
     requires same_type { IfSome found.now (λ p. masked p.nla.kind ≡ masked placed.now.nla.kind) }
-    ensures { result ≡ link_unmet P.LinkPeer.own (option_map (link_at have.now) found.now)
+    ensures { result ≡ link_unmet P.families (option_map (link_at have.now) found.now)
         (link_at want.now placed.now) }
 {
     let Some(found) = found else {
@@ -235,7 +235,7 @@ fn placed_unmet<P: LinkPeer>(
     match role {
         Role::Data(tag) => data_unmet::<InfoDataOf<P>, DataFamily>(family_of(tag), found, placed),
         Role::PortData(tag) => {
-            data_unmet::<InfoPortData, PortFamily>(port_family_of(tag), found, placed)
+            data_unmet::<InfoPortDataOf<P>, PortFamily>(port_family_of(tag), found, placed)
         }
         _ => item_unmet::<P>(role, found, placed),
     }
@@ -243,10 +243,10 @@ fn placed_unmet<P: LinkPeer>(
 
 /// What of an attribute that is no data another one of its type and role does not meet: nothing, or
 /// the whole.
-fn item_unmet<P: LinkPeer>(role: Role, have: &PlacedNla<'_>, want: &PlacedNla<'_>) -> Option<Unmet>
-    requires have { IsOk (item_meaning P.LinkPeer.own role have.now.nla) }
-    requires want { IsOk (item_meaning P.LinkPeer.own role want.now.nla) }
-    ensures { result ≡ item_unmet (item_alike P.LinkPeer.own role) have.now want.now }
+fn item_unmet<P: DataLayer>(role: Role, have: &PlacedNla<'_>, want: &PlacedNla<'_>) -> Option<Unmet>
+    requires have { IsOk (item_meaning P.families role have.now.nla) }
+    requires want { IsOk (item_meaning P.families role want.now.nla) }
+    ensures { result ≡ item_unmet (item_alike P.families role) have.now want.now }
 {
     if have.nla.value() == want.nla.value()
         || same_item::<P>(&have.nla, &want.nla, role, &mut HeaderCount::new())
@@ -258,10 +258,10 @@ fn item_unmet<P: LinkPeer>(role: Role, have: &PlacedNla<'_>, want: &PlacedNla<'_
 }
 
 /// The first attribute of an accepted list that another one does not meet.
-fn first_unmet_in<P: LinkPeer>(have: &[u8], want: &[u8]) -> Option<Unmet>
-    requires have { IsOk (reading P.LinkPeer.own have.now) }
-    requires want { IsOk (reading P.LinkPeer.own want.now) }
-    ensures { result ≡ strings_unmet P.LinkPeer.own have.now want.now }
+fn first_unmet_in<P: DataLayer>(have: &[u8], want: &[u8]) -> Option<Unmet>
+    requires have { IsOk (reading P.families have.now) }
+    requires want { IsOk (reading P.families want.now) }
+    ensures { result ≡ strings_unmet P.families have.now want.now }
 {
     let end = types_end(want);
     let mut first = None;
@@ -275,10 +275,10 @@ fn first_unmet_in<P: LinkPeer>(have: &[u8], want: &[u8]) -> Option<Unmet>
 
 /// The first attribute of an accepted list that another one does not meet, among those of `INDEXED`
 /// types from `start` on.
-fn unmet_from<P: LinkPeer>(have: &[u8], want: &[u8], start: u16) -> Option<UnmetAt>
-    requires have { IsOk (reading P.LinkPeer.own have.now) }
-    requires want { IsOk (reading P.LinkPeer.own want.now) }
-    ensures { result ≡ first_told (covers start) (counted_unmet P.LinkPeer.own have.now want.now)
+fn unmet_from<P: DataLayer>(have: &[u8], want: &[u8], start: u16) -> Option<UnmetAt>
+    requires have { IsOk (reading P.families have.now) }
+    requires want { IsOk (reading P.families want.now) }
+    ensures { result ≡ first_told (covers start) (counted_unmet P.families have.now want.now)
         (attributes_of want.now) }
 {
     let found = LastOfType::new(have, start);
@@ -314,9 +314,9 @@ fn unmet_from<P: LinkPeer>(have: &[u8], want: &[u8], start: u16) -> Option<Unmet
 /// of the list; offsets count from the beginning of each list. The error is that of `have`, else
 /// that of `want`. Does not allocate. Equal lists are validated once. Otherwise the passes over the
 /// lists are as many as in `list_unmet`, and one more over both for data, statistics and port data.
-pub fn first_unmet_of<P: LinkPeer>(have: &[u8], want: &[u8]) -> Result<Option<Unmet>, ErrorIn>
-    ensures answer { result ≡ unmet_answer (reading P.LinkPeer.own have.now)
-        (reading P.LinkPeer.own want.now) (strings_unmet P.LinkPeer.own have.now want.now) }
+pub fn first_unmet_of<P: DataLayer>(have: &[u8], want: &[u8]) -> Result<Option<Unmet>, ErrorIn>
+    ensures answer { result ≡ unmet_answer (reading P.families have.now)
+        (reading P.families want.now) (strings_unmet P.families have.now want.now) }
     ensures no_memory { IfErr result (λ at. either_error at ≢ memory_error) }
 {
     match check_of::<P>(have) {
@@ -345,8 +345,8 @@ pub fn first_unmet_of<P: LinkPeer>(have: &[u8], want: &[u8]) -> Result<Option<Un
 /// ```
 pub fn first_unmet(have: &[u8], want: &[u8]) -> Result<Option<Unmet>, ErrorIn>
     ensures answer { result
-        ≡ unmet_answer (reading bytes_peer have.now) (reading bytes_peer want.now)
-        (strings_unmet bytes_peer have.now want.now) }
+        ≡ unmet_answer (reading bytes_layer have.now) (reading bytes_layer want.now)
+        (strings_unmet bytes_layer have.now want.now) }
     ensures no_memory { IfErr result (λ at. either_error at ≢ memory_error) }
 {
     first_unmet_of::<Bytes>(have, want)

@@ -12,8 +12,8 @@ ghost use Rattle.linkinfo.specs.Met.{nlas_of};
 ghost use Rattle.linkinfo.specs.Strings.{alike_strings, reading};
 ghost use Rattle.linkinfo.specs.Unmet.{strings_unmet};
 
+use linkinfo_data::DataLayer;
 use linkinfo_data::laws::families_lawful;
-use linkinfo_table::LinkPeer;
 
 /// When a list has every attribute of another one: exactly where, of each type of `want`, flags
 /// aside, the last attribute is met by the last one of that type in `have`.
@@ -21,44 +21,44 @@ use linkinfo_table::LinkPeer;
 /// An attribute inside data is met by an equal payload or an equivalent attribute (`data`). An
 /// attribute of the list is met under the same kind, or port kind, by name: by an equal payload or
 /// an equivalent attribute, and data that is a list attribute by attribute (`list`).
-pub fn met_by_last<P: LinkPeer>()
+pub fn met_by_last<P: DataLayer>()
     ensures data { (name : Family) (alike : Attribute → Attribute → Bool) (have want : List ℕ) →
         (list_unmet name alike (attributes_of have) (attributes_of want) ≡ None)
         ↔ ListMeets alike have want }
-    ensures list { (have want : List ℕ) → (strings_unmet P.LinkPeer.own have want ≡ None)
-        ↔ StringMeets P.LinkPeer.own have want }
+    ensures list { (have want : List ℕ) → (strings_unmet P.families have want ≡ None)
+        ↔ StringMeets P.families have want }
 {}
 
 /// Every list is met by itself (`list`), and so is data (`data`).
-pub fn met_by_itself<P: LinkPeer>()
+pub fn met_by_itself<P: DataLayer>()
     ensures data { (name : Family) (alike : Attribute → Attribute → Bool) (s : List ℕ) →
         list_unmet name alike (attributes_of s) (attributes_of s) ≡ None }
-    ensures list { (s : List ℕ) → strings_unmet P.LinkPeer.own s s ≡ None }
+    ensures list { (s : List ℕ) → strings_unmet P.families s s ≡ None }
 {}
 
 /// What is met stays met where other attributes are added or removed. Of data it is enough that the
 /// last attribute of each type of `want` stays (`data`). A list that meets `want` meets it still
 /// after attributes of types that `want` does not have are added or removed, anywhere (`list`). So
 /// it does after such attributes are added or removed inside data that is a list (`inside`).
-pub fn stays_met<P: LinkPeer>()
+pub fn stays_met<P: DataLayer>()
     ensures data { (name : Family) (alike : Attribute → Attribute → Bool)
         (have more want : List ℕ) → HaveSameLasts want have more →
         list_unmet name alike (attributes_of have) (attributes_of want) ≡ None →
         list_unmet name alike (attributes_of more) (attributes_of want) ≡ None }
     ensures list { (have more want : List ℕ) → DifferElsewhere want have more →
-        strings_unmet P.LinkPeer.own have want ≡ None →
-        strings_unmet P.LinkPeer.own more want ≡ None }
-    ensures inside { (have more want : List ℕ) → DifferInside P.LinkPeer.own want have more →
-        strings_unmet P.LinkPeer.own have want ≡ None →
-        strings_unmet P.LinkPeer.own more want ≡ None }
+        strings_unmet P.families have want ≡ None →
+        strings_unmet P.families more want ≡ None }
+    ensures inside { (have more want : List ℕ) → DifferInside P.families want have more →
+        strings_unmet P.families have want ≡ None →
+        strings_unmet P.families more want ≡ None }
 {}
 
 /// Two lists for which `same` is true meet one another, even where a type is twice.
-pub fn same_is_met<P: LinkPeer>(bytes: &[u8], other: &[u8])
-    ensures { IsOk (reading P.LinkPeer.own bytes.now) → IsOk (reading P.LinkPeer.own other.now) →
-        alike_strings P.LinkPeer.own bytes.now other.now ≡ true →
-        (strings_unmet P.LinkPeer.own bytes.now other.now ≡ None)
-        × (strings_unmet P.LinkPeer.own other.now bytes.now ≡ None) }
+pub fn same_is_met<P: DataLayer>(bytes: &[u8], other: &[u8])
+    ensures { IsOk (reading P.families bytes.now) → IsOk (reading P.families other.now) →
+        alike_strings P.families bytes.now other.now ≡ true →
+        (strings_unmet P.families bytes.now other.now ≡ None)
+        × (strings_unmet P.families other.now bytes.now ≡ None) }
 {
     families_lawful::<P>();
 }
@@ -67,17 +67,17 @@ pub fn same_is_met<P: LinkPeer>(bytes: &[u8], other: &[u8])
 /// has an attribute of every type of the other, with an equal payload, or with a reordered one if
 /// it is data that is a list. So do data and a reordering of it (`data`). The same attributes in
 /// another order are a reordering (`permuted`); flags of a type may differ.
-pub fn reordering_is_met<P: LinkPeer>(bytes: &[u8], other: &[u8])
+pub fn reordering_is_met<P: DataLayer>(bytes: &[u8], other: &[u8])
     ensures permuted { HasNoTypeTwice (nlas_of bytes.now) →
         IsPermutation (nlas_of bytes.now) (nlas_of other.now) →
-        IsReorderedList P.LinkPeer.own bytes.now other.now }
+        IsReorderedList P.families bytes.now other.now }
     ensures data { (name : Family) (alike : Attribute → Attribute → Bool) (p q : List ℕ) →
         IsReorderedData p q →
         (list_unmet name alike (attributes_of p) (attributes_of q) ≡ None)
         × (list_unmet name alike (attributes_of q) (attributes_of p) ≡ None) }
-    ensures list { IsOk (reading P.LinkPeer.own bytes.now) →
-        IsOk (reading P.LinkPeer.own other.now) →
-        IsReorderedList P.LinkPeer.own bytes.now other.now →
-        (strings_unmet P.LinkPeer.own bytes.now other.now ≡ None)
-        × (strings_unmet P.LinkPeer.own other.now bytes.now ≡ None) }
+    ensures list { IsOk (reading P.families bytes.now) →
+        IsOk (reading P.families other.now) →
+        IsReorderedList P.families bytes.now other.now →
+        (strings_unmet P.families bytes.now other.now ≡ None)
+        × (strings_unmet P.families other.now bytes.now ≡ None) }
 {}

@@ -1,10 +1,9 @@
 -- The outcome of writing a canonical encoding, as C has it.
 use Rattle.std.specs.Prelude.{◌≡◌, ◌<◌, ◌≤◌, ℕ, List, ◌++◌, drop, length, map, Result, Ok, Err}
 use Rattle.nla_frame.specs.Attribute.{Attribute, ListFits, list_string}
-use Rattle.nla_frame.specs.declared.bytes.Bytes.{Bytes}
 use Rattle.nla_frame.specs.declared.error.DecodeError.{DecodeError}
-use Rattle.linkinfo_data.specs.BytesPeer.{bytes_peer}
-use Rattle.linkinfo.specs.declared.link_info.LinkInfoOf.{LinkInfoOf}
+use Rattle.linkinfo_data.specs.BytesLayer.{bytes_layer}
+use Rattle.linkinfo.specs.Layered.{Links}
 use Rattle.linkinfo.specs.Items.{link_attribute}
 use Rattle.linkinfo_c.specs.declared.canon.LinkinfoCanon.{LinkinfoCanon}
 use Rattle.linkinfo_c.specs.Codes.{canon_refused, canon_short, canon_unfit, canon_written}
@@ -39,7 +38,7 @@ IsCanonOf attributes old new answer =
     × (¬ ListFits attributes → (answer ≡ unfit) × (new ≡ old))
 
 -- the outcome by what a byte string means, and the buffer after the call
-abbrev pub IsCanon : Result (List (LinkInfoOf Bytes)) DecodeError → List ℕ → List ℕ →
+abbrev pub IsCanon : Result (Links bytes_layer) DecodeError → List ℕ → List ℕ →
     LinkinfoCanon → Type 0
 IsCanon (Err error) old new answer = (answer ≡ refused error) × (new ≡ old)
-IsCanon (Ok list) old new answer = IsCanonOf (map (link_attribute bytes_peer) list) old new answer
+IsCanon (Ok list) old new answer = IsCanonOf (map (link_attribute bytes_layer) list) old new answer

@@ -1,7 +1,7 @@
 //! Canonical encodings, written into a buffer of the caller.
 
 ghost use Rattle.std.specs.Prelude.{◌≡◌, ◌≢◌, length};
-ghost use Rattle.linkinfo_data.specs.BytesPeer.{bytes_peer};
+ghost use Rattle.linkinfo_data.specs.BytesLayer.{bytes_layer};
 ghost use Rattle.linkinfo.specs.Strings.{reading};
 ghost use Rattle.linkinfo_c.specs.Canon.{IsCanon};
 ghost use Rattle.linkinfo_c.specs.Causes.{IsReturnedCode};
@@ -37,7 +37,7 @@ pub struct LinkinfoCanon {
 /// buffer is.
 #[unsafe(no_mangle)]
 pub extern "C" fn linkinfo_canon(bytes: &[u8], buffer: &mut [u8]) -> LinkinfoCanon
-    ensures answer { IsCanon (reading bytes_peer bytes.now) buffer.old buffer.new result }
+    ensures answer { IsCanon (reading bytes_layer bytes.now) buffer.old buffer.new result }
     ensures cause { IsReturnedCode result.error.cause }
 {
     match canon_into(bytes, buffer) {

@@ -2,7 +2,7 @@
 
 ghost use Rattle.std.specs.Prelude.{◌≡◌, ◌*◌, ◌≤◌, IfErr, IsOk, length};
 ghost use Rattle.nla_frame.specs.Answers.{verdict};
-ghost use Rattle.linkinfo_data.specs.BytesPeer.{bytes_peer};
+ghost use Rattle.linkinfo_data.specs.BytesLayer.{bytes_layer};
 ghost use Rattle.linkinfo.specs.Placed.{IsErrorAt, IsRejectedAt};
 ghost use Rattle.linkinfo.specs.Strings.{alike_strings, headers_of_string, reading};
 ghost use Rattle.linkinfo_c.specs.Causes.{IsReturnedCode};
@@ -63,7 +63,7 @@ pub struct LinkinfoInnerError {
 /// Validates a list: returns its first error in byte order, or none.
 #[unsafe(no_mangle)]
 pub extern "C" fn linkinfo_check(bytes: &[u8]) -> LinkinfoError
-    ensures error { result ≡ error_or_none (verdict (reading bytes_peer bytes.now)) }
+    ensures error { result ≡ error_or_none (verdict (reading bytes_layer bytes.now)) }
     ensures cause { IsReturnedCode result.cause }
 {
     error_or_none(check(bytes))
@@ -72,11 +72,11 @@ pub extern "C" fn linkinfo_check(bytes: &[u8]) -> LinkinfoError
 /// Validates a list, and returns the offset of its error too.
 #[unsafe(no_mangle)]
 pub extern "C" fn linkinfo_check_at(bytes: &[u8]) -> LinkinfoErrorAt
-    ensures error { result.error ≡ error_or_none (verdict (reading bytes_peer bytes.now)) }
+    ensures error { result.error ≡ error_or_none (verdict (reading bytes_layer bytes.now)) }
     ensures cause { IsReturnedCode result.error.cause }
-    ensures place { IfErr (reading bytes_peer bytes.now)
-        (λ error. IsRejectedAt bytes_peer bytes.now error result.place) }
-    ensures accepted { IsOk (reading bytes_peer bytes.now) → result.place ≡ 0 }
+    ensures place { IfErr (reading bytes_layer bytes.now)
+        (λ error. IsRejectedAt bytes_layer bytes.now error result.place) }
+    ensures accepted { IsOk (reading bytes_layer bytes.now) → result.place ≡ 0 }
 {
     match check_at(bytes) {
         Ok(()) => LinkinfoErrorAt {
@@ -93,12 +93,12 @@ pub extern "C" fn linkinfo_check_at(bytes: &[u8]) -> LinkinfoErrorAt
 /// Validates a list, and returns the offset of the innermost attribute with the error too.
 #[unsafe(no_mangle)]
 pub extern "C" fn linkinfo_check_inner(bytes: &[u8]) -> LinkinfoInnerError
-    ensures error { result.error ≡ error_or_none (verdict (reading bytes_peer bytes.now)) }
+    ensures error { result.error ≡ error_or_none (verdict (reading bytes_layer bytes.now)) }
     ensures cause { IsReturnedCode result.error.cause }
-    ensures place { IfErr (reading bytes_peer bytes.now)
-        (λ error. IsErrorAt bytes_peer bytes.now error result.place result.inner) }
-    ensures accepted { IsOk (reading bytes_peer bytes.now) → result.place ≡ 0 }
-    ensures accepted_inner { IsOk (reading bytes_peer bytes.now) → result.inner ≡ 0 }
+    ensures place { IfErr (reading bytes_layer bytes.now)
+        (λ error. IsErrorAt bytes_layer bytes.now error result.place result.inner) }
+    ensures accepted { IsOk (reading bytes_layer bytes.now) → result.place ≡ 0 }
+    ensures accepted_inner { IsOk (reading bytes_layer bytes.now) → result.inner ≡ 0 }
 {
     match check_at(bytes) {
         Ok(()) => LinkinfoInnerError {
@@ -119,8 +119,8 @@ pub extern "C" fn linkinfo_check_inner(bytes: &[u8]) -> LinkinfoInnerError
 #[unsafe(no_mangle)]
 pub extern "C" fn linkinfo_same(a: &[u8], b: &[u8]) -> LinkinfoSame
     ensures answer { result
-        ≡ same_record (reading bytes_peer a.now) (reading bytes_peer b.now)
-        (alike_strings bytes_peer a.now b.now) }
+        ≡ same_record (reading bytes_layer a.now) (reading bytes_layer b.now)
+        (alike_strings bytes_layer a.now b.now) }
     ensures cause { IsReturnedCode result.error.cause }
 {
     match same_at(a, b) {
@@ -146,9 +146,9 @@ pub extern "C" fn linkinfo_same(a: &[u8], b: &[u8]) -> LinkinfoSame
 /// bytes.
 #[unsafe(no_mangle)]
 pub extern "C" fn linkinfo_count(bytes: &[u8]) -> LinkinfoCount
-    ensures error { result.error ≡ error_or_none (verdict (reading bytes_peer bytes.now)) }
+    ensures error { result.error ≡ error_or_none (verdict (reading bytes_layer bytes.now)) }
     ensures cause { IsReturnedCode result.error.cause }
-    ensures count { result.count ≡ headers_of_string bytes_peer bytes.now }
+    ensures count { result.count ≡ headers_of_string bytes_layer bytes.now }
     ensures quarter { 4 * result.count ≤ length bytes.now }
 {
     let mut count = HeaderCount::new();

@@ -1,7 +1,7 @@
 //! Where two lists differ.
 
 ghost use Rattle.std.specs.Prelude.{◌≡◌};
-ghost use Rattle.linkinfo_data.specs.BytesPeer.{bytes_peer};
+ghost use Rattle.linkinfo_data.specs.BytesLayer.{bytes_layer};
 ghost use Rattle.linkinfo.specs.Comparing.{placed_answer};
 ghost use Rattle.linkinfo.specs.Difference.{strings_difference};
 ghost use Rattle.linkinfo.specs.Strings.{reading};
@@ -98,8 +98,8 @@ fn difference_record(answer: Result<Option<Difference>, ErrorIn>) -> LinkinfoDif
 #[unsafe(no_mangle)]
 pub extern "C" fn linkinfo_first_difference(a: &[u8], b: &[u8]) -> LinkinfoDifference
     ensures answer { result
-        ≡ difference_record (placed_answer (reading bytes_peer a.now) (reading bytes_peer b.now)
-        (strings_difference bytes_peer a.now b.now)) }
+        ≡ difference_record (placed_answer (reading bytes_layer a.now) (reading bytes_layer b.now)
+        (strings_difference bytes_layer a.now b.now)) }
     ensures cause { IsReturnedCode result.error.cause }
 {
     difference_record(first_difference(a, b))

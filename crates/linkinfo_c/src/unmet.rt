@@ -1,7 +1,7 @@
 //! Whether a link has all attributes of a request, and the first one that it lacks.
 
 ghost use Rattle.std.specs.Prelude.{◌≡◌};
-ghost use Rattle.linkinfo_data.specs.BytesPeer.{bytes_peer};
+ghost use Rattle.linkinfo_data.specs.BytesLayer.{bytes_layer};
 ghost use Rattle.linkinfo.specs.Strings.{reading};
 ghost use Rattle.linkinfo.specs.Unmet.{strings_unmet, unmet_answer};
 ghost use Rattle.linkinfo_c.specs.Causes.{IsReturnedCode};
@@ -93,8 +93,8 @@ fn unmet_record(answer: Result<Option<Unmet>, ErrorIn>) -> LinkinfoUnmet
 #[unsafe(no_mangle)]
 pub extern "C" fn linkinfo_first_unmet(have: &[u8], want: &[u8]) -> LinkinfoUnmet
     ensures answer { result
-        ≡ unmet_record (unmet_answer (reading bytes_peer have.now) (reading bytes_peer want.now)
-        (strings_unmet bytes_peer have.now want.now)) }
+        ≡ unmet_record (unmet_answer (reading bytes_layer have.now) (reading bytes_layer want.now)
+        (strings_unmet bytes_layer have.now want.now)) }
     ensures cause { IsReturnedCode result.error.cause }
 {
     unmet_record(first_unmet(have, want))

@@ -27,21 +27,21 @@ use Rattle.linkinfo_peers.specs.Conditions.{bat_adv_conditions}
 use Rattle.linkinfo_peers.specs.Conditions.{wwan_conditions}
 -- End: written by tables/generate.
 use Rattle.linkinfo_data.specs.Data.{data_of}
-use Rattle.linkinfo_table.specs.declared.peer.LinkPeer.{Ghosts}
+use Rattle.linkinfo_table.specs.Layers.{Families, Types}
 use Rattle.linkinfo_data.specs.Payloads.{Labelled, Payload, as_first, as_list}
 use Rattle.linkinfo_data.specs.PortData.{port_data_of}
 use Rattle.linkinfo_data.specs.declared.data.DataFamily.{DataFamily}
 use Rattle.linkinfo_data.specs.declared.data.DataFamily.TheVariants as of
 use Rattle.linkinfo_data.specs.declared.devices.DeviceFamily.{DeviceFamily}
 use Rattle.linkinfo_data.specs.declared.devices.DeviceFamily.TheVariants as device
-use Rattle.linkinfo_data.specs.declared.info_data.InfoDataOf.{InfoDataOf}
+use Rattle.linkinfo_data.specs.Layered.{DataOf, PortDataOf}
+use Rattle.linkinfo_data.specs.PeerLayer.{peer_types}
 use Rattle.linkinfo_data.specs.declared.info_data.InfoDataOf.TheVariants as info
 use Rattle.linkinfo_data.specs.declared.lower.LowerFamily.{LowerFamily}
 use Rattle.linkinfo_data.specs.declared.lower.LowerFamily.TheVariants as lower
 use Rattle.linkinfo_data.specs.declared.peers.PeeredFamily.{PeeredFamily}
 use Rattle.linkinfo_data.specs.declared.peers.PeeredFamily.TheVariants as peered
-use Rattle.linkinfo_data.specs.declared.port_data.InfoPortData.{InfoPortData}
-use Rattle.linkinfo_data.specs.declared.port_data.InfoPortData.TheVariants as port
+use Rattle.linkinfo_data.specs.declared.port_data.InfoPortDataOf.TheVariants as port
 use Rattle.linkinfo_data.specs.declared.port_data.PortFamily.{PortFamily}
 use Rattle.linkinfo_data.specs.declared.port_data.PortFamily.TheVariants as port_of
 use Rattle.linkinfo_data.specs.declared.tunnels.TunnelFamily.{TunnelFamily}
@@ -55,81 +55,143 @@ IsListOf variant conditions d = Labelled variant (λ xs. AllByRecursion conditio
 abbrev pub IsOneOf : {A X : Type 0} → (A → X) → (A → Type 0) → X → Type 0
 IsOneOf variant conditions d = Labelled variant conditions d
 
-abbrev pub lower_conditions : {P : Type 0} → LowerFamily → InfoDataOf P → Type 0
+-- a condition of the attributes of each family of a layer
+pub record FamilyConditions (t : Types) : Type 1 where
+  pub bond : t.Bond → Type 0
+  pub bridge : t.Bridge → Type 0
+  pub vlan : t.Vlan → Type 0
+  pub can : t.Can → Type 0
+  pub hsr : t.Hsr → Type 0
+  pub dsa : t.Dsa → Type 0
+  pub tun : t.Tun → Type 0
+  pub bond_port : t.BondPort → Type 0
+  pub bridge_port : t.BridgePort → Type 0
+
+-- these are the conditions of the well-formed attributes
+pub record AreOfLayer {t : Types} (layer : Families t) (well : FamilyConditions t) : Type 0 where
+  pub bond : (x : t.Bond) → layer.bond.well x ↔ well.bond x
+  pub bridge : (x : t.Bridge) → layer.bridge.well x ↔ well.bridge x
+  pub vlan : (x : t.Vlan) → layer.vlan.well x ↔ well.vlan x
+  pub can : (x : t.Can) → layer.can.well x ↔ well.can x
+  pub hsr : (x : t.Hsr) → layer.hsr.well x ↔ well.hsr x
+  pub dsa : (x : t.Dsa) → layer.dsa.well x ↔ well.dsa x
+  pub tun : (x : t.Tun) → layer.tun.well x ↔ well.tun x
+  pub bond_port : (x : t.BondPort) → layer.bond_port.well x ↔ well.bond_port x
+  pub bridge_port : (x : t.BridgePort) → layer.bridge_port.well x ↔ well.bridge_port x
+
+-- those that the families have themselves
+abbrev pub own_conditions : {t : Types} → Families t → FamilyConditions t
+own_conditions layer = record {
+  bond = layer.bond.well;
+  bridge = layer.bridge.well;
+  vlan = layer.vlan.well;
+  can = layer.can.well;
+  hsr = layer.hsr.well;
+  dsa = layer.dsa.well;
+  tun = layer.tun.well;
+  bond_port = layer.bond_port.well;
+  bridge_port = layer.bridge_port.well;
+}
+
+-- those of the families of a peer, whose attributes are opaque
+abbrev pub opaque_families : {P : Type 0} → FamilyConditions (peer_types P)
+opaque_families = record {
+  bond = opaque_conditions;
+  bridge = opaque_conditions;
+  vlan = opaque_conditions;
+  can = opaque_conditions;
+  hsr = opaque_conditions;
+  dsa = opaque_conditions;
+  tun = opaque_conditions;
+  bond_port = opaque_conditions;
+  bridge_port = opaque_conditions;
+}
+
+-- the conditions of data of a family, given those of a peer and of the families of the layer
+abbrev pub lower_conditions : {t : Types} → (t.Peer → Type 0) → FamilyConditions t →
+    LowerFamily → DataOf t → Type 0
 -- Begin: written by tables/generate from tables/kinds (lower).
-lower_conditions lower.Bridge d = IsListOf (λ xs. info.Bridge xs) opaque_conditions d
-lower_conditions lower.Vlan d = IsListOf (λ xs. info.Vlan xs) opaque_conditions d
-lower_conditions lower.Bond d = IsListOf (λ xs. info.Bond xs) opaque_conditions d
-lower_conditions lower.Hsr d = IsListOf (λ xs. info.Hsr xs) opaque_conditions d
-lower_conditions lower.Can d = IsListOf (λ xs. info.Can xs) opaque_conditions d
-lower_conditions lower.Dsa d = IsListOf (λ xs. info.Dsa xs) opaque_conditions d
+lower_conditions peer well lower.Bridge d = IsListOf (λ xs. info.Bridge xs) well.bridge d
+lower_conditions peer well lower.Vlan d = IsListOf (λ xs. info.Vlan xs) well.vlan d
+lower_conditions peer well lower.Bond d = IsListOf (λ xs. info.Bond xs) well.bond d
+lower_conditions peer well lower.Hsr d = IsListOf (λ xs. info.Hsr xs) well.hsr d
+lower_conditions peer well lower.Can d = IsListOf (λ xs. info.Can xs) well.can d
+lower_conditions peer well lower.Dsa d = IsListOf (λ xs. info.Dsa xs) well.dsa d
 
 -- End: written by tables/generate.
 
-abbrev pub device_conditions : {P : Type 0} → DeviceFamily → InfoDataOf P → Type 0
+abbrev pub device_conditions : {t : Types} → (t.Peer → Type 0) → FamilyConditions t →
+    DeviceFamily → DataOf t → Type 0
 -- Begin: written by tables/generate from tables/kinds (device).
-device_conditions device.IpVlan d = IsListOf (λ xs. info.IpVlan xs) ip_vlan_conditions d
-device_conditions device.IpVtap d = IsListOf (λ xs. info.IpVtap xs) ip_vlan_conditions d
-device_conditions (device.MacVlan lists) d =
+device_conditions peer well device.IpVlan d = IsListOf (λ xs. info.IpVlan xs) ip_vlan_conditions d
+device_conditions peer well device.IpVtap d = IsListOf (λ xs. info.IpVtap xs) ip_vlan_conditions d
+device_conditions peer well (device.MacVlan lists) d =
     IsListOf (λ xs. info.MacVlan xs) (mac_vlan_conditions lists) d
-device_conditions (device.MacVtap lists) d =
+device_conditions peer well (device.MacVtap lists) d =
     IsListOf (λ xs. info.MacVtap xs) (mac_vtap_conditions lists) d
-device_conditions device.Vrf d = IsListOf (λ xs. info.Vrf xs) vrf_conditions d
-device_conditions device.Ipoib d = IsListOf (λ xs. info.Ipoib xs) ipoib_conditions d
-device_conditions device.Xfrm d = IsListOf (λ xs. info.Xfrm xs) xfrm_conditions d
-device_conditions device.MacSec d = IsListOf (λ xs. info.MacSec xs) mac_sec_conditions d
-device_conditions device.RmNet d = IsListOf (λ xs. info.RmNet xs) rm_net_conditions d
+device_conditions peer well device.Vrf d = IsListOf (λ xs. info.Vrf xs) vrf_conditions d
+device_conditions peer well device.Ipoib d = IsListOf (λ xs. info.Ipoib xs) ipoib_conditions d
+device_conditions peer well device.Xfrm d = IsListOf (λ xs. info.Xfrm xs) xfrm_conditions d
+device_conditions peer well device.MacSec d = IsListOf (λ xs. info.MacSec xs) mac_sec_conditions d
+device_conditions peer well device.RmNet d = IsListOf (λ xs. info.RmNet xs) rm_net_conditions d
 
 -- End: written by tables/generate.
 
-abbrev pub tunnel_conditions : {P : Type 0} → TunnelFamily → InfoDataOf P → Type 0
+abbrev pub tunnel_conditions : {t : Types} → (t.Peer → Type 0) → FamilyConditions t →
+    TunnelFamily → DataOf t → Type 0
 -- Begin: written by tables/generate from tables/kinds (tunnel).
-tunnel_conditions tunnel.Vxlan d = IsListOf (λ xs. info.Vxlan xs) vxlan_conditions d
-tunnel_conditions tunnel.GreTap d = IsListOf (λ xs. info.GreTap xs) gre_conditions d
-tunnel_conditions tunnel.GreTap6 d = IsListOf (λ xs. info.GreTap6 xs) gre6_conditions d
-tunnel_conditions (tunnel.IpTunnel tag) d =
+tunnel_conditions peer well tunnel.Vxlan d = IsListOf (λ xs. info.Vxlan xs) vxlan_conditions d
+tunnel_conditions peer well tunnel.GreTap d = IsListOf (λ xs. info.GreTap xs) gre_conditions d
+tunnel_conditions peer well tunnel.GreTap6 d = IsListOf (λ xs. info.GreTap6 xs) gre6_conditions d
+tunnel_conditions peer well (tunnel.IpTunnel tag) d =
     IsListOf (λ xs. info.IpTunnel xs) (ip_tunnel_conditions tag) d
-tunnel_conditions tunnel.GreTun d = IsListOf (λ xs. info.GreTun xs) gre_conditions d
-tunnel_conditions tunnel.GreTun6 d = IsListOf (λ xs. info.GreTun6 xs) gre6_conditions d
-tunnel_conditions tunnel.Vti d = IsListOf (λ xs. info.Vti xs) vti_conditions d
-tunnel_conditions tunnel.Gtp d = IsListOf (λ xs. info.Gtp xs) gtp_conditions d
-tunnel_conditions tunnel.Geneve d = IsListOf (λ xs. info.Geneve xs) geneve_conditions d
-tunnel_conditions tunnel.Amt d = IsListOf (λ xs. info.Amt xs) amt_conditions d
-tunnel_conditions tunnel.BareUdp d = IsListOf (λ xs. info.BareUdp xs) bare_udp_conditions d
-tunnel_conditions tunnel.ErSpan d = IsListOf (λ xs. info.ErSpan xs) gre_conditions d
-tunnel_conditions tunnel.Ip6ErSpan d = IsListOf (λ xs. info.Ip6ErSpan xs) gre6_conditions d
+tunnel_conditions peer well tunnel.GreTun d = IsListOf (λ xs. info.GreTun xs) gre_conditions d
+tunnel_conditions peer well tunnel.GreTun6 d = IsListOf (λ xs. info.GreTun6 xs) gre6_conditions d
+tunnel_conditions peer well tunnel.Vti d = IsListOf (λ xs. info.Vti xs) vti_conditions d
+tunnel_conditions peer well tunnel.Gtp d = IsListOf (λ xs. info.Gtp xs) gtp_conditions d
+tunnel_conditions peer well tunnel.Geneve d = IsListOf (λ xs. info.Geneve xs) geneve_conditions d
+tunnel_conditions peer well tunnel.Amt d = IsListOf (λ xs. info.Amt xs) amt_conditions d
+tunnel_conditions peer well tunnel.BareUdp d = IsListOf (λ xs. info.BareUdp xs) bare_udp_conditions d
+tunnel_conditions peer well tunnel.ErSpan d = IsListOf (λ xs. info.ErSpan xs) gre_conditions d
+tunnel_conditions peer well tunnel.Ip6ErSpan d = IsListOf (λ xs. info.Ip6ErSpan xs) gre6_conditions d
 
 -- End: written by tables/generate.
 
--- the conditions of data of links with a peer, given the condition of a peer
-abbrev pub peered_conditions : {P : Type 0} → (P → Type 0) → PeeredFamily → InfoDataOf P → Type 0
+abbrev pub peered_conditions : {t : Types} → (t.Peer → Type 0) → FamilyConditions t →
+    PeeredFamily → DataOf t → Type 0
 -- Begin: written by tables/generate from tables/kinds (peered).
-peered_conditions well peered.Tun d = IsListOf (λ xs. info.Tun xs) opaque_conditions d
-peered_conditions well peered.Veth d = IsOneOf (λ x. info.Veth x) (veth_conditions well) d
-peered_conditions well peered.Wireguard d = IsListOf (λ xs. info.Wireguard xs) opaque_conditions d
-peered_conditions well peered.Netkit d = IsListOf (λ xs. info.Netkit xs) (netkit_conditions well) d
-peered_conditions well peered.Vxcan d = IsOneOf (λ x. info.Vxcan x) (vxcan_conditions well) d
-peered_conditions well peered.BatAdv d = IsListOf (λ xs. info.BatAdv xs) bat_adv_conditions d
-peered_conditions well peered.Wwan d = IsListOf (λ xs. info.Wwan xs) wwan_conditions d
-peered_conditions well peered.Pfcp d = IsListOf (λ xs. info.Pfcp xs) opaque_conditions d
+peered_conditions peer well peered.Tun d = IsListOf (λ xs. info.Tun xs) well.tun d
+peered_conditions peer well peered.Veth d =
+    IsOneOf (λ x. info.Veth x) (veth_conditions peer) d
+peered_conditions peer well peered.Wireguard d = IsListOf (λ xs. info.Wireguard xs) opaque_conditions d
+peered_conditions peer well peered.Netkit d =
+    IsListOf (λ xs. info.Netkit xs) (netkit_conditions peer) d
+peered_conditions peer well peered.Vxcan d =
+    IsOneOf (λ x. info.Vxcan x) (vxcan_conditions peer) d
+peered_conditions peer well peered.BatAdv d = IsListOf (λ xs. info.BatAdv xs) bat_adv_conditions d
+peered_conditions peer well peered.Wwan d = IsListOf (λ xs. info.Wwan xs) wwan_conditions d
+peered_conditions peer well peered.Pfcp d = IsListOf (λ xs. info.Pfcp xs) opaque_conditions d
 
 -- End: written by tables/generate.
 
--- the conditions of data of a family, and of data without a family, which is bytes
-abbrev pub data_conditions : {P : Type 0} → (P → Type 0) → DataFamily → InfoDataOf P → Type 0
-data_conditions well (of.Lower f) d = lower_conditions f d
-data_conditions well (of.Device f) d = device_conditions f d
-data_conditions well (of.Tunnel f) d = tunnel_conditions f d
-data_conditions well (of.Peered f) d = peered_conditions well f d
-data_conditions well of.Raw d = Labelled (λ bytes. info.Other bytes) IsBytes d
+-- of data of any family, and of data without a family, which is bytes
+abbrev pub data_conditions : {t : Types} → (t.Peer → Type 0) → FamilyConditions t →
+    DataFamily → DataOf t → Type 0
+data_conditions peer well (of.Lower f) d = lower_conditions peer well f d
+data_conditions peer well (of.Device f) d = device_conditions peer well f d
+data_conditions peer well (of.Tunnel f) d = tunnel_conditions peer well f d
+data_conditions peer well (of.Peered f) d = peered_conditions peer well f d
+data_conditions peer well of.Raw d = Labelled (λ bytes. info.Other bytes) IsBytes d
 
--- the conditions of port data of a family, and of port data without a family, which is bytes
-abbrev pub port_data_conditions : PortFamily → InfoPortData → Type 0
-port_data_conditions port_of.Bond d = IsListOf (λ xs. port.BondPort xs) opaque_conditions d
-port_data_conditions port_of.Bridge d = IsListOf (λ xs. port.BridgePort xs) opaque_conditions d
-port_data_conditions port_of.Vrf d = IsListOf (λ xs. port.VrfPort xs) vrf_conditions d
-port_data_conditions port_of.Team d = IsListOf (λ xs. port.TeamPort xs) opaque_conditions d
-port_data_conditions port_of.Raw d = Labelled (λ bytes. port.Other bytes) IsBytes d
+-- of port data of a family, and of port data without a family, which is bytes
+abbrev pub port_data_conditions : {t : Types} → (t.Peer → Type 0) → FamilyConditions t →
+    PortFamily → PortDataOf t → Type 0
+port_data_conditions peer well port_of.Bond d = IsListOf (λ xs. port.BondPort xs) well.bond_port d
+port_data_conditions peer well port_of.Bridge d =
+    IsListOf (λ xs. port.BridgePort xs) well.bridge_port d
+port_data_conditions peer well port_of.Vrf d = IsListOf (λ xs. port.VrfPort xs) vrf_conditions d
+port_data_conditions peer well port_of.Team d = IsListOf (λ xs. port.TeamPort xs) opaque_conditions d
+port_data_conditions peer well port_of.Raw d = Labelled (λ bytes. port.Other bytes) IsBytes d
 
 -- ---- a value of a payload is well formed if and only if it meets these conditions
 
@@ -150,6 +212,8 @@ pub one_stated : {A X : Type 0} (m : Members A) (variant : A → X) (conditions 
 one_stated m variant conditions same d =
     (λ w. (w.0, (same w.0).0 w.1, w.2), λ h. (h.0, (same h.0).1 h.1, h.2))
 
-pub record AreStated {P : Type 0} (peer : Ghosts P) (well : P → Type 0) : Type 0 where
-  pub link : (f : DataFamily) → IsStated (data_of peer f) (λ d. data_conditions well f d)
-  pub port : (f : PortFamily) → IsStated (port_data_of f) (λ d. port_data_conditions f d)
+pub record AreStated {t : Types} (layer : Families t) (well : FamilyConditions t) : Type 0 where
+  pub link : (f : DataFamily) →
+      IsStated (data_of layer f) (λ d. data_conditions layer.peer.well well f d)
+  pub port : (f : PortFamily) →
+      IsStated (port_data_of layer f) (λ d. port_data_conditions layer.peer.well well f d)

@@ -10,7 +10,7 @@ use Rattle.linkinfo_data.specs.declared.devices.DeviceFamily.{DeviceFamily}
 use Rattle.linkinfo_data.specs.declared.lower.LowerFamily.TheVariants as lower
 use Rattle.linkinfo_data.specs.declared.peers.PeeredFamily.TheVariants as peered
 use Rattle.linkinfo_data.specs.declared.tunnels.TunnelFamily.TheVariants as tunnel
-use Rattle.linkinfo_data.specs.declared.info_data.InfoDataOf.{InfoDataOf}
+use Rattle.linkinfo_data.specs.Layered.{DataOf}
 use Rattle.linkinfo_data.specs.declared.info_data.InfoDataOf.TheVariants as info
 use Rattle.linkinfo_data.specs.DeviceData.{
   devices_data_of,
@@ -18,7 +18,7 @@ use Rattle.linkinfo_data.specs.DeviceData.{
   devices_nest,
   devices_nested_in,
 }
-use Rattle.linkinfo_table.specs.declared.peer.LinkPeer.{Ghosts}
+use Rattle.linkinfo_table.specs.Layers.{Families, Types}
 use Rattle.linkinfo_data.specs.Listed.{IsKnown, IsNested, bytes_are_known}
 use Rattle.linkinfo_data.specs.LowerData.{lower_data_of, lower_known, lower_nest}
 use Rattle.linkinfo_data.specs.Payloads.{Payload, as_bytes}
@@ -71,20 +71,20 @@ family_of tag.RmNet = of.Device device.RmNet
 family_of _ = of.Raw
 
 -- what payloads mean as data of a family, and the variant that holds it
-abbrev pub data_of : {P : Type 0} → Ghosts P → DataFamily → Payload (InfoDataOf P)
-data_of peer (of.Lower f) = lower_data_of f
-data_of peer (of.Device f) = devices_data_of f
-data_of peer (of.Tunnel f) = tunnels_data_of f
-data_of peer (of.Peered f) = peers_data_of peer f
-data_of peer of.Raw = as_bytes (λ bytes. info.Other bytes)
+abbrev pub data_of : {t : Types} → Families t → DataFamily → Payload (DataOf t)
+data_of layer (of.Lower f) = lower_data_of layer f
+data_of layer (of.Device f) = devices_data_of layer f
+data_of layer (of.Tunnel f) = tunnels_data_of layer f
+data_of layer (of.Peered f) = peers_data_of layer f
+data_of layer of.Raw = as_bytes (λ bytes. info.Other bytes)
 
-pub data_known : {P : Type 0} (peer : Ghosts P) (f : DataFamily) →
-    IsKnown (data_of peer f)
-data_known peer (of.Lower f) = lower_known _ f
-data_known peer (of.Device f) = devices_known _ f
-data_known peer (of.Tunnel f) = tunnels_known _ f
-data_known peer (of.Peered f) = peers_known peer f
-data_known peer of.Raw = bytes_are_known (λ bytes. info.Other bytes)
+pub data_known : {t : Types} (layer : Families t) (f : DataFamily) →
+    IsKnown (data_of layer f)
+data_known layer (of.Lower f) = lower_known layer f
+data_known layer (of.Device f) = devices_known layer f
+data_known layer (of.Tunnel f) = tunnels_known layer f
+data_known layer (of.Peered f) = peers_known layer f
+data_known layer of.Raw = bytes_are_known (λ bytes. info.Other bytes)
 
 -- the attributes that hold lists, and the family of these lists
 abbrev pub as_device : ℕ × DeviceFamily → ℕ × DataFamily
@@ -94,17 +94,18 @@ abbrev pub data_nested_in : DataFamily → Option (ℕ × DataFamily)
 data_nested_in (of.Device f) = option_map as_device (devices_nested_in f)
 data_nested_in _ = None
 
-device_nests : {P : Type 0} (peer : Ghosts P) (f : DeviceFamily)
+device_nests : {t : Types} (layer : Families t) (f : DeviceFamily)
     (nest : Option (ℕ × DeviceFamily)) →
-    IsNested (devices_data_of {P = P}) f nest →
-    IsNested (data_of peer) (of.Device f) (option_map as_device nest)
-device_nests peer f None law = law
-device_nests peer f (Some nest) law = law
+    IsNested (devices_data_of layer) f nest →
+    IsNested (data_of layer) (of.Device f) (option_map as_device nest)
+device_nests layer f None law = law
+device_nests layer f (Some nest) law = law
 
-pub data_nest : {P : Type 0} (peer : Ghosts P) (f : DataFamily) →
-    IsNested (data_of peer) f (data_nested_in f)
-data_nest peer (of.Lower f) = lower_nest _ f
-data_nest peer (of.Device f) = device_nests peer f (devices_nested_in f) (devices_nest _ f)
-data_nest peer (of.Tunnel f) = tunnels_nest _ f
-data_nest peer (of.Peered f) = peers_nest peer f
-data_nest peer of.Raw = tt {0}
+pub data_nest : {t : Types} (layer : Families t) (f : DataFamily) →
+    IsNested (data_of layer) f (data_nested_in f)
+data_nest layer (of.Lower f) = lower_nest layer f
+data_nest layer (of.Device f) =
+    device_nests layer f (devices_nested_in f) (devices_nest layer f)
+data_nest layer (of.Tunnel f) = tunnels_nest layer f
+data_nest layer (of.Peered f) = peers_nest layer f
+data_nest layer of.Raw = tt {0}

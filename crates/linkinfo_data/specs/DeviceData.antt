@@ -7,7 +7,8 @@ use Rattle.linkinfo_devices.specs.Macvtap.{mac_vtap_attribute, mac_vtap_plain_ro
 use Rattle.linkinfo_devices.specs.Nested.{list_alike, list_means}
 use Rattle.linkinfo_devices.specs.declared.macvlan.InfoMacVlan as macvlan
 use Rattle.linkinfo_devices.specs.declared.macvtap.InfoMacVtap as macvtap
-use Rattle.linkinfo_data.specs.declared.info_data.InfoDataOf.{InfoDataOf}
+use Rattle.linkinfo_table.specs.Layers.{Families, Types}
+use Rattle.linkinfo_data.specs.Layered.{DataOf}
 use Rattle.linkinfo_data.specs.declared.info_data.InfoDataOf.TheVariants as info
 use Rattle.linkinfo_data.specs.declared.devices.DeviceFamily.{DeviceFamily}
 use Rattle.linkinfo_data.specs.declared.devices.DeviceFamily.TheVariants as of
@@ -29,35 +30,36 @@ mac_vlan_lists around = lists_inside plain.mac_vlan (128 - around) around
 abbrev pub mac_vtap_lists : ℕ → Lists
 mac_vtap_lists around = lists_inside plain.mac_vtap (128 - around) around
 
-abbrev pub devices_data_of : {P : Type 0} → DeviceFamily → Payload (InfoDataOf P)
+abbrev pub devices_data_of : {t : Types} → Families t → DeviceFamily → Payload (DataOf t)
 -- Begin: written by tables/generate from tables/kinds (data).
-devices_data_of of.IpVlan = as_list plain.ip_vlan (λ xs. info.IpVlan xs)
-devices_data_of of.IpVtap = as_list plain.ip_vtap (λ xs. info.IpVtap xs)
-devices_data_of (of.MacVlan around) =
+devices_data_of layer of.IpVlan = as_list plain.ip_vlan (λ xs. info.IpVlan xs)
+devices_data_of layer of.IpVtap = as_list plain.ip_vtap (λ xs. info.IpVtap xs)
+devices_data_of layer (of.MacVlan around) =
     as_lists (plain.mac_vlan around) (mac_vlan_lists around) (λ xs. info.MacVlan xs)
-devices_data_of (of.MacVtap around) =
+devices_data_of layer (of.MacVtap around) =
     as_lists (plain.mac_vtap around) (mac_vtap_lists around) (λ xs. info.MacVtap xs)
-devices_data_of of.Vrf = as_list plain.vrf (λ xs. info.Vrf xs)
-devices_data_of of.Ipoib = as_list plain.ipoib (λ xs. info.Ipoib xs)
-devices_data_of of.Xfrm = as_list plain.xfrm (λ xs. info.Xfrm xs)
-devices_data_of of.MacSec = as_list plain.mac_sec (λ xs. info.MacSec xs)
-devices_data_of of.RmNet = as_list plain.rm_net (λ xs. info.RmNet xs)
+devices_data_of layer of.Vrf = as_list plain.vrf (λ xs. info.Vrf xs)
+devices_data_of layer of.Ipoib = as_list plain.ipoib (λ xs. info.Ipoib xs)
+devices_data_of layer of.Xfrm = as_list plain.xfrm (λ xs. info.Xfrm xs)
+devices_data_of layer of.MacSec = as_list plain.mac_sec (λ xs. info.MacSec xs)
+devices_data_of layer of.RmNet = as_list plain.rm_net (λ xs. info.RmNet xs)
 
 -- End: written by tables/generate.
 
-pub devices_known : (P : Type 0) (f : DeviceFamily) → IsKnown (devices_data_of {P = P} f)
+pub devices_known : {t : Types} (layer : Families t) (f : DeviceFamily) →
+    IsKnown (devices_data_of layer f)
 -- Begin: written by tables/generate from tables/kinds (known).
-devices_known P of.IpVlan = list_is_known plain.ip_vlan (λ xs. info.IpVlan xs)
-devices_known P of.IpVtap = list_is_known plain.ip_vtap (λ xs. info.IpVtap xs)
-devices_known P (of.MacVlan around) =
+devices_known layer of.IpVlan = list_is_known plain.ip_vlan (λ xs. info.IpVlan xs)
+devices_known layer of.IpVtap = list_is_known plain.ip_vtap (λ xs. info.IpVtap xs)
+devices_known layer (of.MacVlan around) =
     lists_are_known (plain.mac_vlan around) (mac_vlan_lists around) (λ xs. info.MacVlan xs)
-devices_known P (of.MacVtap around) =
+devices_known layer (of.MacVtap around) =
     lists_are_known (plain.mac_vtap around) (mac_vtap_lists around) (λ xs. info.MacVtap xs)
-devices_known P of.Vrf = list_is_known plain.vrf (λ xs. info.Vrf xs)
-devices_known P of.Ipoib = list_is_known plain.ipoib (λ xs. info.Ipoib xs)
-devices_known P of.Xfrm = list_is_known plain.xfrm (λ xs. info.Xfrm xs)
-devices_known P of.MacSec = list_is_known plain.mac_sec (λ xs. info.MacSec xs)
-devices_known P of.RmNet = list_is_known plain.rm_net (λ xs. info.RmNet xs)
+devices_known layer of.Vrf = list_is_known plain.vrf (λ xs. info.Vrf xs)
+devices_known layer of.Ipoib = list_is_known plain.ipoib (λ xs. info.Ipoib xs)
+devices_known layer of.Xfrm = list_is_known plain.xfrm (λ xs. info.Xfrm xs)
+devices_known layer of.MacSec = list_is_known plain.mac_sec (λ xs. info.MacSec xs)
+devices_known layer of.RmNet = list_is_known plain.rm_net (λ xs. info.RmNet xs)
 
 -- End: written by tables/generate.
 
@@ -69,20 +71,20 @@ devices_nested_in (of.MacVtap around) = if nat_lt around 128 then Some (5, of.Ma
     else None
 devices_nested_in _ = None
 
-pub devices_nest : (P : Type 0) (f : DeviceFamily) →
-    IsNested (devices_data_of {P = P}) f (devices_nested_in f)
-devices_nest P (of.MacVlan around) =
+pub devices_nest : {t : Types} (layer : Families t) (f : DeviceFamily) →
+    IsNested (devices_data_of layer) f (devices_nested_in f)
+devices_nest layer (of.MacVlan around) =
     nested_in plain.mac_vlan (λ xs. macvlan.MacAddrData xs) (λ xs. info.MacVlan xs) (λ c d. refl)
     (λ c a. list_means family.MacVlan (λ d. macvlan.Other d) mac_vlan_attribute
     (λ xs. macvlan.MacAddrData xs) mac_vlan_plain_rows c a)
     (λ c a b. list_alike family.MacVlan (λ d. macvlan.Other d) mac_vlan_attribute
     (λ xs. macvlan.MacAddrData xs) mac_vlan_plain_rows c a b)
-    (devices_data_of {P = P}) (λ c. of.MacVlan c) (λ c. refl) around (nat_lt around 128) refl
-devices_nest P (of.MacVtap around) =
+    (devices_data_of layer) (λ c. of.MacVlan c) (λ c. refl) around (nat_lt around 128) refl
+devices_nest layer (of.MacVtap around) =
     nested_in plain.mac_vtap (λ xs. macvtap.MacAddrData xs) (λ xs. info.MacVtap xs) (λ c d. refl)
     (λ c a. list_means family.MacVtap (λ d. macvtap.Other d) mac_vtap_attribute
     (λ xs. macvtap.MacAddrData xs) mac_vtap_plain_rows c a)
     (λ c a b. list_alike family.MacVtap (λ d. macvtap.Other d) mac_vtap_attribute
     (λ xs. macvtap.MacAddrData xs) mac_vtap_plain_rows c a b)
-    (devices_data_of {P = P}) (λ c. of.MacVtap c) (λ c. refl) around (nat_lt around 128) refl
-devices_nest P _ = refl
+    (devices_data_of layer) (λ c. of.MacVtap c) (λ c. refl) around (nat_lt around 128) refl
+devices_nest layer _ = refl

@@ -1,14 +1,14 @@
 pub mod Asking
-pub mod BytesPeer
+pub mod BytesLayer
 pub mod Conditions
 pub mod Data
-pub mod DataEqual
 pub mod DataVariants
 pub mod DeviceData
 pub mod Difference
 pub mod Encoding
 pub mod Equal
 pub mod InfoData
+pub mod Layered
 pub mod Lawful
 pub mod Listed
 pub mod Listing
@@ -17,7 +17,9 @@ pub mod LowerData
 pub mod Names
 pub mod Payloads
 pub mod PeerData
+pub mod PeerLayer
 pub mod Plain
 pub mod PortData
+pub mod PortVariants
 pub mod TunnelData
 pub mod Unmet

@@ -4,7 +4,7 @@ use Rattle.std.specs.Prelude.{◌≡◌, ◌↔◌, ℕ, true, List, None, Some,
 use Rattle.nla_frame.specs.declared.error.Family.{Family}
 use Rattle.linkinfo_data.specs.Data.{data_of}
 use Rattle.linkinfo_data.specs.Difference.{list_difference, list_error}
-use Rattle.linkinfo_table.specs.declared.peer.LinkPeer.{Ghosts}
+use Rattle.linkinfo_table.specs.Layers.{Families, Types}
 use Rattle.linkinfo_data.specs.Listing.{accepted_in, alike_in, family_in, lists_in}
 use Rattle.linkinfo_data.specs.Payloads.{Payload}
 use Rattle.linkinfo_data.specs.PortData.{port_data_of}
@@ -29,6 +29,6 @@ pub record IsLocated {X : Type 0} (payload : Payload X) : Type 0 where
   pub difference : DiffersWhereUnlike payload
   pub error : ErrsWhereRejected payload
 
-pub record AreLocated {P : Type 0} (peer : Ghosts P) : Type 0 where
-  pub link : (f : DataFamily) → IsLocated (data_of peer f)
-  pub port : (f : PortFamily) → IsLocated (port_data_of f)
+pub record AreLocated {t : Types} (layer : Families t) : Type 0 where
+  pub link : (f : DataFamily) → IsLocated (data_of layer f)
+  pub port : (f : PortFamily) → IsLocated (port_data_of layer f)

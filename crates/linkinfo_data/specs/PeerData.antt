@@ -2,45 +2,45 @@
 -- under each family, and the variant that holds it.
 use Rattle.std.specs.Prelude.{None, refl}
 use Rattle.linkinfo_peers.specs.PeerMembers.{netkit_members, veth_members, vxcan_members}
-use Rattle.linkinfo_data.specs.declared.info_data.InfoDataOf.{InfoDataOf}
+use Rattle.linkinfo_table.specs.Layers.{Families, Types}
+use Rattle.linkinfo_data.specs.Layered.{DataOf}
 use Rattle.linkinfo_data.specs.declared.info_data.InfoDataOf.TheVariants as info
 use Rattle.linkinfo_data.specs.declared.peers.PeeredFamily.{PeeredFamily}
 use Rattle.linkinfo_data.specs.declared.peers.PeeredFamily.TheVariants as of
-use Rattle.linkinfo_table.specs.declared.peer.LinkPeer.{Ghosts}
 use Rattle.linkinfo_data.specs.Listed.{IsKnown, IsNested, first_is_known, list_is_known}
 use Rattle.linkinfo_data.specs.Payloads.{Payload, as_list, as_first}
 use Rattle.linkinfo_data.specs.Plain.{plain}
 
-abbrev pub peers_data_of : {P : Type 0} → Ghosts P → PeeredFamily → Payload (InfoDataOf P)
+abbrev pub peers_data_of : {t : Types} → Families t → PeeredFamily → Payload (DataOf t)
 -- Begin: written by tables/generate from tables/kinds (data).
-peers_data_of peer of.Tun = as_list plain.tun (λ xs. info.Tun xs)
-peers_data_of peer of.Veth = as_first (veth_members peer) (λ x. info.Veth x)
-peers_data_of peer of.Wireguard = as_list plain.wireguard (λ xs. info.Wireguard xs)
-peers_data_of peer of.Netkit = as_list (netkit_members peer) (λ xs. info.Netkit xs)
-peers_data_of peer of.Vxcan = as_first (vxcan_members peer) (λ x. info.Vxcan x)
-peers_data_of peer of.BatAdv = as_list plain.bat_adv (λ xs. info.BatAdv xs)
-peers_data_of peer of.Wwan = as_list plain.wwan (λ xs. info.Wwan xs)
-peers_data_of peer of.Pfcp = as_list plain.pfcp (λ xs. info.Pfcp xs)
+peers_data_of layer of.Tun = as_list layer.tun (λ xs. info.Tun xs)
+peers_data_of layer of.Veth = as_first (veth_members layer.peer) (λ x. info.Veth x)
+peers_data_of layer of.Wireguard = as_list plain.wireguard (λ xs. info.Wireguard xs)
+peers_data_of layer of.Netkit = as_list (netkit_members layer.peer) (λ xs. info.Netkit xs)
+peers_data_of layer of.Vxcan = as_first (vxcan_members layer.peer) (λ x. info.Vxcan x)
+peers_data_of layer of.BatAdv = as_list plain.bat_adv (λ xs. info.BatAdv xs)
+peers_data_of layer of.Wwan = as_list plain.wwan (λ xs. info.Wwan xs)
+peers_data_of layer of.Pfcp = as_list plain.pfcp (λ xs. info.Pfcp xs)
 
 -- End: written by tables/generate.
 
-pub peers_known : {P : Type 0} (peer : Ghosts P) (f : PeeredFamily) →
-    IsKnown (peers_data_of peer f)
+pub peers_known : {t : Types} (layer : Families t) (f : PeeredFamily) →
+    IsKnown (peers_data_of layer f)
 -- Begin: written by tables/generate from tables/kinds (known).
-peers_known peer of.Tun = list_is_known plain.tun (λ xs. info.Tun xs)
-peers_known peer of.Veth = first_is_known (veth_members peer) (λ x. info.Veth x)
-peers_known peer of.Wireguard = list_is_known plain.wireguard (λ xs. info.Wireguard xs)
-peers_known peer of.Netkit = list_is_known (netkit_members peer) (λ xs. info.Netkit xs)
-peers_known peer of.Vxcan = first_is_known (vxcan_members peer) (λ x. info.Vxcan x)
-peers_known peer of.BatAdv = list_is_known plain.bat_adv (λ xs. info.BatAdv xs)
-peers_known peer of.Wwan = list_is_known plain.wwan (λ xs. info.Wwan xs)
-peers_known peer of.Pfcp = list_is_known plain.pfcp (λ xs. info.Pfcp xs)
+peers_known layer of.Tun = list_is_known layer.tun (λ xs. info.Tun xs)
+peers_known layer of.Veth = first_is_known (veth_members layer.peer) (λ x. info.Veth x)
+peers_known layer of.Wireguard = list_is_known plain.wireguard (λ xs. info.Wireguard xs)
+peers_known layer of.Netkit = list_is_known (netkit_members layer.peer) (λ xs. info.Netkit xs)
+peers_known layer of.Vxcan = first_is_known (vxcan_members layer.peer) (λ x. info.Vxcan x)
+peers_known layer of.BatAdv = list_is_known plain.bat_adv (λ xs. info.BatAdv xs)
+peers_known layer of.Wwan = list_is_known plain.wwan (λ xs. info.Wwan xs)
+peers_known layer of.Pfcp = list_is_known plain.pfcp (λ xs. info.Pfcp xs)
 
 -- End: written by tables/generate.
 
 -- no attribute holds a list
-pub peers_nest : {P : Type 0} (peer : Ghosts P) (f : PeeredFamily) →
-    IsNested (peers_data_of peer) f None
-peers_nest peer of.Veth = tt {0}
-peers_nest peer of.Vxcan = tt {0}
-peers_nest peer _ = refl
+pub peers_nest : {t : Types} (layer : Families t) (f : PeeredFamily) →
+    IsNested (peers_data_of layer) f None
+peers_nest layer of.Veth = tt {0}
+peers_nest layer of.Vxcan = tt {0}
+peers_nest layer _ = refl

@@ -4,8 +4,9 @@ use Rattle.nla_frame.specs.Attribute.{Attribute, list_string}
 use Rattle.linkinfo_numbers.specs.declared.tags.PortTag.{PortTag}
 use Rattle.linkinfo_numbers.specs.declared.tags.PortTag.TheVariants as tag
 use Rattle.std.specs.Prelude.{None, refl}
-use Rattle.linkinfo_data.specs.declared.port_data.InfoPortData.{InfoPortData}
-use Rattle.linkinfo_data.specs.declared.port_data.InfoPortData.TheVariants as info
+use Rattle.linkinfo_table.specs.Layers.{Families, Types}
+use Rattle.linkinfo_data.specs.Layered.{PortDataOf}
+use Rattle.linkinfo_data.specs.declared.port_data.InfoPortDataOf.TheVariants as info
 use Rattle.linkinfo_data.specs.declared.port_data.PortFamily.{PortFamily}
 use Rattle.linkinfo_data.specs.declared.port_data.PortFamily.TheVariants as of
 use Rattle.linkinfo_data.specs.Listed.{IsKnown, IsNested, bytes_are_known, list_is_known}
@@ -21,33 +22,35 @@ port_family_of tag.Team = of.Team
 port_family_of _ = of.Raw
 
 -- what payloads mean as port data of a family, and the variant that holds it
-abbrev pub port_data_of : PortFamily → Payload InfoPortData
-port_data_of of.Bond = as_list plain.bond_port (λ xs. info.BondPort xs)
-port_data_of of.Bridge = as_list plain.bridge_port (λ xs. info.BridgePort xs)
-port_data_of of.Vrf = as_list plain.vrf_port (λ xs. info.VrfPort xs)
-port_data_of of.Team = as_list plain.team_port (λ xs. info.TeamPort xs)
-port_data_of of.Raw = as_bytes (λ bytes. info.Other bytes)
+abbrev pub port_data_of : {t : Types} → Families t → PortFamily → Payload (PortDataOf t)
+port_data_of layer of.Bond = as_list layer.bond_port (λ xs. info.BondPort xs)
+port_data_of layer of.Bridge = as_list layer.bridge_port (λ xs. info.BridgePort xs)
+port_data_of layer of.Vrf = as_list plain.vrf_port (λ xs. info.VrfPort xs)
+port_data_of layer of.Team = as_list plain.team_port (λ xs. info.TeamPort xs)
+port_data_of layer of.Raw = as_bytes (λ bytes. info.Other bytes)
 
 -- the canonical payload of port data
-unfoldable pub port_data_payload : InfoPortData → List ℕ
-port_data_payload (info.BondPort xs) = list_string (map plain.bond_port.attribute xs)
-port_data_payload (info.BridgePort xs) = list_string (map plain.bridge_port.attribute xs)
-port_data_payload (info.VrfPort xs) = list_string (map plain.vrf_port.attribute xs)
-port_data_payload (info.TeamPort xs) = list_string (map plain.team_port.attribute xs)
-port_data_payload (info.Other bytes) = bytes
+unfoldable pub port_data_payload : {t : Types} → Families t → PortDataOf t → List ℕ
+port_data_payload layer (info.BondPort xs) = list_string (map layer.bond_port.attribute xs)
+port_data_payload layer (info.BridgePort xs) = list_string (map layer.bridge_port.attribute xs)
+port_data_payload layer (info.VrfPort xs) = list_string (map plain.vrf_port.attribute xs)
+port_data_payload layer (info.TeamPort xs) = list_string (map plain.team_port.attribute xs)
+port_data_payload layer (info.Other bytes) = bytes
 
 -- the canonical attribute of port data
-abbrev pub port_data_attribute : InfoPortData → Attribute
-port_data_attribute d = record { kind = 5; value = port_data_payload d }
+abbrev pub port_data_attribute : {t : Types} → Families t → PortDataOf t → Attribute
+port_data_attribute layer d = record { kind = 5; value = port_data_payload layer d }
 
-pub port_known : (f : PortFamily) → IsKnown (port_data_of f)
-port_known of.Bond = list_is_known plain.bond_port (λ xs. info.BondPort xs)
-port_known of.Bridge = list_is_known plain.bridge_port (λ xs. info.BridgePort xs)
-port_known of.Vrf = list_is_known plain.vrf_port (λ xs. info.VrfPort xs)
-port_known of.Team = list_is_known plain.team_port (λ xs. info.TeamPort xs)
-port_known of.Raw = bytes_are_known (λ bytes. info.Other bytes)
+pub port_known : {t : Types} (layer : Families t) (f : PortFamily) →
+    IsKnown (port_data_of layer f)
+port_known layer of.Bond = list_is_known layer.bond_port (λ xs. info.BondPort xs)
+port_known layer of.Bridge = list_is_known layer.bridge_port (λ xs. info.BridgePort xs)
+port_known layer of.Vrf = list_is_known plain.vrf_port (λ xs. info.VrfPort xs)
+port_known layer of.Team = list_is_known plain.team_port (λ xs. info.TeamPort xs)
+port_known layer of.Raw = bytes_are_known (λ bytes. info.Other bytes)
 
 -- no attribute holds a list
-pub port_nest : (f : PortFamily) → IsNested port_data_of f None
-port_nest of.Raw = tt {0}
-port_nest _ = refl
+pub port_nest : {t : Types} (layer : Families t) (f : PortFamily) →
+    IsNested (port_data_of layer) f None
+port_nest layer of.Raw = tt {0}
+port_nest layer _ = refl

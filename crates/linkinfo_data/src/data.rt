@@ -12,19 +12,19 @@ ghost use Rattle.linkinfo_data.specs.Data.{
 use crate::ask::Ask;
 use crate::devices::DeviceFamily;
 use crate::info_data::InfoDataOf;
+use crate::layer::DataLayer;
 use crate::lower::LowerFamily;
 use crate::payload_family::PayloadFamily;
 use crate::peers::PeeredFamily;
 use crate::tunnels::TunnelFamily;
 use linkinfo_numbers::KindTag;
-use linkinfo_table::LinkPeer;
-use nla_frame::{Bytes, DecodeError, ExactEq, Family, HeaderCount};
+use nla_frame::{DecodeError, ExactEq, Family, HeaderCount};
 use std::alloc::Global;
 
 /// The family of the attributes in `IFLA_INFO_DATA`, which the kind of the link chooses.
 #[derive(Clone, Copy, Debug, PartialEq, Eq)]
 pub enum DataFamily {
-    /// An opaque family (`linkinfo_table::lower`), whose attributes are kept verbatim.
+    /// A family that the layer supplies.
     Lower(LowerFamily),
     /// A family of `linkinfo_devices`.
     Device(DeviceFamily),
@@ -111,23 +111,17 @@ pub fn family_of(tag: KindTag) -> DataFamily
     }
 }
 
-impl<P: LinkPeer> PayloadFamily<InfoDataOf<P>> for DataFamily {
-    ghost data_of = { data_of P.LinkPeer.own };
+impl<P: DataLayer> PayloadFamily<InfoDataOf<P>> for DataFamily {
+    ghost data_of = { data_of P.families };
 
-    ghost known = { data_known P.LinkPeer.own };
+    ghost known = { data_known P.families };
 
     ghost nested_in = { data_nested_in };
 
-    ghost nests = { data_nest P.LinkPeer.own };
+    ghost nests = { data_nest P.families };
 
     fn listing(self) -> Option<Family> {
-        match self {
-            DataFamily::Lower(family) => PayloadFamily::<InfoDataOf<P>>::listing(family),
-            DataFamily::Device(family) => PayloadFamily::<InfoDataOf<P>>::listing(family),
-            DataFamily::Tunnel(family) => PayloadFamily::<InfoDataOf<P>>::listing(family),
-            DataFamily::Peered(family) => PayloadFamily::<InfoDataOf<P>>::listing(family),
-            DataFamily::Raw => None,
-        }
+        P::data_listing(self)
     }
 
     fn nested(self) -> Option<(u16, Self)> {
@@ -144,31 +138,11 @@ impl<P: LinkPeer> PayloadFamily<InfoDataOf<P>> for DataFamily {
         payload: &[u8],
         count: &mut HeaderCount,
     ) -> Result<InfoDataOf<P>, DecodeError> {
-        match self {
-            DataFamily::Lower(family) => family.read(alloc, payload, count),
-            DataFamily::Device(family) => family.read(alloc, payload, count),
-            DataFamily::Tunnel(family) => family.read(alloc, payload, count),
-            DataFamily::Peered(family) => family.read(alloc, payload, count),
-            DataFamily::Raw => Ok(InfoDataOf::Other(Bytes::copy_of(alloc, payload)?)),
-        }
+        P::read_data(self, alloc, payload, count)
     }
 
     #[inline(always)]
     fn ask<Q: Ask>(self, question: Q, count: &mut HeaderCount, buffer: &mut [u8]) -> Q::Answer {
-        match self {
-            DataFamily::Lower(family) => PayloadFamily::<InfoDataOf<P>>::ask(
-                family, question, count, buffer,
-            ),
-            DataFamily::Device(family) => PayloadFamily::<InfoDataOf<P>>::ask(
-                family, question, count, buffer,
-            ),
-            DataFamily::Tunnel(family) => PayloadFamily::<InfoDataOf<P>>::ask(
-                family, question, count, buffer,
-            ),
-            DataFamily::Peered(family) => PayloadFamily::<InfoDataOf<P>>::ask(
-                family, question, count, buffer,
-            ),
-            DataFamily::Raw => question.of_bytes(count, buffer),
-        }
+        P::ask_data(self, question, count, buffer)
     }
 }

@@ -18,7 +18,7 @@ use linkinfo_devices::{
 };
 // End: written by tables/generate.
 use linkinfo_devices::{LIST_TYPE, MOST_LISTS};
-use linkinfo_table::LinkPeer;
+use linkinfo_table::{LayerFamilies, LinkLayer};
 use nla_frame::{DecodeError, ExactEq, Family, HeaderCount};
 use std::alloc::Global;
 
@@ -75,14 +75,14 @@ macro_rules! of_device {
     };
 }
 
-impl<P: LinkPeer> PayloadFamily<InfoDataOf<P>> for DeviceFamily {
-    ghost data_of = { λ family. devices_data_of family };
+impl<P: LinkLayer> PayloadFamily<InfoDataOf<P>> for DeviceFamily {
+    ghost data_of = { λ family. devices_data_of ⟦<P as LayerFamilies>⟧.families family };
 
-    ghost known = { λ family. devices_known _ family };
+    ghost known = { λ family. devices_known ⟦<P as LayerFamilies>⟧.families family };
 
     ghost nested_in = { devices_nested_in };
 
-    ghost nests = { λ family. devices_nest _ family };
+    ghost nests = { λ family. devices_nest ⟦<P as LayerFamilies>⟧.families family };
 
     fn listing(self) -> Option<Family> {
         match self {

@@ -1,4 +1,4 @@
-//! Specifications of the attributes of each family without a peer, a line a family.
+//! Specifications of the attributes of each family that depends on no layer, a line a family.
 
 ghost use Rattle.std.specs.Prelude.{ℕ};
 // Begin: written by tables/generate from tables/kinds (types).
@@ -23,8 +23,11 @@ ghost use Rattle.linkinfo_peers.specs.declared.batadv.InfoBatAdv.{InfoBatAdv};
 ghost use Rattle.linkinfo_peers.specs.declared.wwan.InfoWwan.{InfoWwan};
 // End: written by tables/generate.
 ghost use Rattle.linkinfo_numbers.specs.declared.tags.KindTag.{KindTag};
+ghost use Rattle.nla_frame.specs.declared.bytes.Bytes.{Bytes};
+ghost use Rattle.linkinfo_table.specs.Layers.{Families};
 ghost use Rattle.linkinfo_table.specs.Members.{Members};
 ghost use Rattle.linkinfo_table.specs.declared.opaque.Opaque.{Opaque};
+ghost use Rattle.linkinfo_data.specs.PeerLayer.{peer_types};
 
 // Begin: written by tables/generate from tables/kinds (device).
 use linkinfo_devices::{
@@ -36,36 +39,18 @@ use linkinfo_devices::{
 use linkinfo_peers::{InfoBatAdv, InfoWwan};
 // End: written by tables/generate.
 use linkinfo_devices::InfoVrfPort;
-use linkinfo_peers::{InfoPfcp, InfoTeamPort, InfoTun, InfoWireguard};
-use linkinfo_table::ListedFamily;
-use linkinfo_table::lower::{
-    InfoBond, InfoBondPort, InfoBridge, InfoBridgePort, InfoCan, InfoDsa, InfoHsr, InfoVlan,
-};
+use linkinfo_peers::{InfoPfcp, InfoTeamPort, InfoWireguard};
+use linkinfo_table::{LayerFamilies, ListedFamily};
 // Begin: written by tables/generate from tables/kinds (tunnel).
 use linkinfo_tunnels::{
     InfoAmt, InfoBareUdp, InfoGeneve, InfoGre, InfoGre6, InfoGtp, InfoIpTunnel, InfoVti, InfoVxlan,
 };
 // End: written by tables/generate.
+use nla_frame::Bytes;
 
-/// The specification of the attributes of each family without a peer. For `ipip`, `ip6tnl` and
-/// `sit` links it depends on the tag of the kind.
+/// The specification of the attributes of each family that depends on no layer. For `ipip`,
+/// `ip6tnl` and `sit` links it depends on the tag of the kind.
 pub trait PlainFamilies {
-    ghost bridge: { Members (Opaque 3) };
-
-    ghost vlan: { Members (Opaque 11) };
-
-    ghost bond: { Members (Opaque 1) };
-
-    ghost hsr: { Members (Opaque 7) };
-
-    ghost can: { Members (Opaque 5) };
-
-    ghost dsa: { Members (Opaque 6) };
-
-    ghost bridge_port: { Members (Opaque 4) };
-
-    ghost bond_port: { Members (Opaque 2) };
-
     ghost vrf_port: { Members InfoVrf };
 
     // Begin: written by tables/generate from tables/kinds (declared).
@@ -110,13 +95,13 @@ pub trait PlainFamilies {
     ghost wwan: { Members InfoWwan };
     // End: written by tables/generate.
 
-    ghost tun: { Members (Opaque 10) };
-
     ghost wireguard: { Members (Opaque 12) };
 
     ghost pfcp: { Members (Opaque 8) };
 
     ghost team_port: { Members (Opaque 9) };
+
+    ghost bytes_layer: { Families (peer_types Bytes) };
 }
 
 /// The type that implements `PlainFamilies`. Only specifications name it: no call takes or returns
@@ -124,22 +109,6 @@ pub trait PlainFamilies {
 pub struct Plain;
 
 impl PlainFamilies for Plain {
-    ghost bridge = { ⟦<InfoBridge as ListedFamily>⟧.members tt };
-
-    ghost vlan = { ⟦<InfoVlan as ListedFamily>⟧.members tt };
-
-    ghost bond = { ⟦<InfoBond as ListedFamily>⟧.members tt };
-
-    ghost hsr = { ⟦<InfoHsr as ListedFamily>⟧.members tt };
-
-    ghost can = { ⟦<InfoCan as ListedFamily>⟧.members tt };
-
-    ghost dsa = { ⟦<InfoDsa as ListedFamily>⟧.members tt };
-
-    ghost bridge_port = { ⟦<InfoBridgePort as ListedFamily>⟧.members tt };
-
-    ghost bond_port = { ⟦<InfoBondPort as ListedFamily>⟧.members tt };
-
     ghost vrf_port = { ⟦<InfoVrfPort as ListedFamily>⟧.members tt };
 
     // Begin: written by tables/generate from tables/kinds (members).
@@ -184,11 +153,11 @@ impl PlainFamilies for Plain {
     ghost wwan = { ⟦<InfoWwan as ListedFamily>⟧.members tt };
     // End: written by tables/generate.
 
-    ghost tun = { ⟦<InfoTun as ListedFamily>⟧.members tt };
-
     ghost wireguard = { ⟦<InfoWireguard as ListedFamily>⟧.members tt };
 
     ghost pfcp = { ⟦<InfoPfcp as ListedFamily>⟧.members tt };
 
     ghost team_port = { ⟦<InfoTeamPort as ListedFamily>⟧.members tt };
+
+    ghost bytes_layer = { ⟦<Bytes as LayerFamilies>⟧.families };
 }

@@ -6,7 +6,8 @@ ghost use Rattle.linkinfo_data.specs.Data.{data_of, family_of};
 ghost use Rattle.linkinfo_data.specs.InfoData.{data_payload};
 
 use crate::data::family_of;
-use crate::encode::{Encode, FitLen, Write};
+use crate::encode::Encode;
+use crate::layer::DataLayer;
 use crate::payload_family::PayloadFamily;
 // Begin: written by tables/generate from tables/kinds (device).
 use linkinfo_devices::{
@@ -17,13 +18,10 @@ use linkinfo_devices::{
 use linkinfo_numbers::{IFLA_INFO_DATA, InfoKind};
 // Begin: written by tables/generate from tables/kinds (peered).
 use linkinfo_peers::{
-    InfoBatAdv, InfoNetkitOf, InfoPfcp, InfoTun, InfoVethOf, InfoVxcanOf, InfoWireguard, InfoWwan,
+    InfoBatAdv, InfoNetkitOf, InfoPfcp, InfoVethOf, InfoVxcanOf, InfoWireguard, InfoWwan,
 };
 // End: written by tables/generate.
-use linkinfo_table::LinkPeer;
-// Begin: written by tables/generate from tables/kinds (lower).
-use linkinfo_table::lower::{InfoBond, InfoBridge, InfoCan, InfoDsa, InfoHsr, InfoVlan};
-// End: written by tables/generate.
+use linkinfo_table::{LayerFamilies, LinkLayer};
 // Begin: written by tables/generate from tables/kinds (tunnel).
 use linkinfo_tunnels::{
     InfoAmt, InfoBareUdp, InfoGeneve, InfoGre, InfoGre6, InfoGtp, InfoIpTunnel, InfoVti, InfoVxlan,
@@ -33,22 +31,23 @@ use nla_frame::{Bytes, DecodeError, ExactEq, HeaderCount, Nla, Nlas};
 use std::alloc::Global;
 
 /// The data of a link (`IFLA_INFO_DATA`): the attributes of its kind's family, or bytes if the kind
-/// has no family. Peers have the type `P`.
+/// has no family. `P` is the layer that supplies the type of peers, and the families of some kinds:
+/// at a `LinkPeer` these families are opaque.
 #[derive(Debug, PartialEq, Eq, Clone, Drop)]
-pub enum InfoDataOf<P> {
+pub enum InfoDataOf<P: LinkLayer> {
     // Begin: written by tables/generate from tables/kinds (variants).
-    /// Attributes of `bridge` links (`IFLA_BR_*`), kept verbatim.
-    Bridge(Nlas<InfoBridge>),
-    /// Attributes of `tun` links (`IFLA_TUN_*`), kept verbatim.
-    Tun(Nlas<InfoTun>),
-    /// Attributes of `vlan` links (`IFLA_VLAN_*`), kept verbatim.
-    Vlan(Nlas<InfoVlan>),
+    /// Attributes of `bridge` links (`IFLA_BR_*`), which the layer supplies.
+    Bridge(Nlas<P::Bridge>),
+    /// Attributes of `tun` links (`IFLA_TUN_*`), which the layer supplies.
+    Tun(Nlas<P::Tun>),
+    /// Attributes of `vlan` links (`IFLA_VLAN_*`), which the layer supplies.
+    Vlan(Nlas<P::Vlan>),
     /// The attribute of `veth` links (`VETH_INFO_*`): the first one of their data.
-    Veth(InfoVethOf<P>),
+    Veth(InfoVethOf<P::Peer>),
     /// Attributes of `vxlan` links (`IFLA_VXLAN_*`).
     Vxlan(Nlas<InfoVxlan>),
-    /// Attributes of `bond` links (`IFLA_BOND_*`), kept verbatim.
-    Bond(Nlas<InfoBond>),
+    /// Attributes of `bond` links (`IFLA_BOND_*`), which the layer supplies.
+    Bond(Nlas<P::Bond>),
     /// Attributes of `ipvlan` links (`IFLA_IPVLAN_*`).
     IpVlan(Nlas<InfoIpVlan>),
     /// Attributes of `ipvtap` links (`IFLA_IPVLAN_*`).
@@ -81,14 +80,14 @@ pub enum InfoDataOf<P> {
     Xfrm(Nlas<InfoXfrm>),
     /// Attributes of `macsec` links (`IFLA_MACSEC_*`).
     MacSec(Nlas<InfoMacSec>),
-    /// Attributes of `hsr` links (`IFLA_HSR_*`), kept verbatim.
-    Hsr(Nlas<InfoHsr>),
+    /// Attributes of `hsr` links (`IFLA_HSR_*`), which the layer supplies.
+    Hsr(Nlas<P::Hsr>),
     /// Attributes of `geneve` links (`IFLA_GENEVE_*`).
     Geneve(Nlas<InfoGeneve>),
     /// Attributes of `netkit` links (`IFLA_NETKIT_*`).
-    Netkit(Nlas<InfoNetkitOf<P>>),
+    Netkit(Nlas<InfoNetkitOf<P::Peer>>),
     /// The attribute of `vxcan` links (`VXCAN_INFO_*`): the first one of their data.
-    Vxcan(InfoVxcanOf<P>),
+    Vxcan(InfoVxcanOf<P::Peer>),
     /// Attributes of `amt` links (`IFLA_AMT_*`).
     Amt(Nlas<InfoAmt>),
     /// Attributes of `batadv` links (`IFLA_BATADV_*`).
@@ -97,10 +96,10 @@ pub enum InfoDataOf<P> {
     BareUdp(Nlas<InfoBareUdp>),
     /// Attributes of `wwan` links (`IFLA_WWAN_*`).
     Wwan(Nlas<InfoWwan>),
-    /// Attributes of `can` links (`IFLA_CAN_*`), kept verbatim.
-    Can(Nlas<InfoCan>),
-    /// Attributes of `dsa` links (`IFLA_DSA_*`), kept verbatim.
-    Dsa(Nlas<InfoDsa>),
+    /// Attributes of `can` links (`IFLA_CAN_*`), which the layer supplies.
+    Can(Nlas<P::Can>),
+    /// Attributes of `dsa` links (`IFLA_DSA_*`), which the layer supplies.
+    Dsa(Nlas<P::Dsa>),
     /// Attributes of `erspan` links (`IFLA_GRE_*`).
     ErSpan(Nlas<InfoGre>),
     /// Attributes of `ip6erspan` links (`IFLA_GRE_*`).
@@ -114,10 +113,10 @@ pub enum InfoDataOf<P> {
     Other(Bytes),
 }
 
-/// The data of a link (`IFLA_INFO_DATA`), with peers kept as bytes.
+/// The data of a link (`IFLA_INFO_DATA`), with peers kept as bytes, and opaque families.
 pub type InfoData = InfoDataOf<Bytes>;
 
-impl<P: LinkPeer> InfoDataOf<P> {
+impl<P: DataLayer> InfoDataOf<P> {
     /// Parses the payload of `IFLA_INFO_DATA` of a link of this kind.
     ///
     /// The result holds the attributes of the kind's family, or the bytes if the kind has none.
@@ -133,20 +132,22 @@ impl<P: LinkPeer> InfoDataOf<P> {
         kind: &InfoKind,
     ) -> Result<InfoDataOf<P>, DecodeError>
         ensures answer { Gives (λ value. value) result
-            ((data_of P.LinkPeer.own (family_of (tag_of_kind kind.now))).means payload.now) }
-        ensures certain { CertainUnless ((data_of P.LinkPeer.own
+            ((data_of P.families (family_of (tag_of_kind kind.now))).means payload.now) }
+        ensures certain { CertainUnless ((data_of P.families
             (family_of (tag_of_kind kind.now))).needs_memory payload.now) (λ value. value) result
-            ((data_of P.LinkPeer.own (family_of (tag_of_kind kind.now))).means payload.now) }
+            ((data_of P.families (family_of (tag_of_kind kind.now))).means payload.now) }
     {
         let mut count = HeaderCount::new();
         family_of(kind.tag()).read(alloc, payload, &mut count)
     }
+}
 
+impl<P: LinkLayer> InfoDataOf<P> {
     /// Encodes the data: the encodings of the attributes, one after another, or the bytes.
     #[tactic(auto, unfolding(crate::specs::InfoData::data_payload))]
-    fn encode<E: Encode>(&self, encode: E, buffer: &mut [u8]) -> E::Answer
-        requires { E.ready (data_payload P.LinkPeer.own self.now) buffer.old }
-        ensures { E.answered (data_payload P.LinkPeer.own self.now) buffer.old buffer.new result }
+    pub(crate) fn encode<E: Encode>(&self, encode: E, buffer: &mut [u8]) -> E::Answer
+        requires { E.ready (data_payload ⟦<P as LayerFamilies>⟧.families self.now) buffer.old }
+        ensures { E.answered (data_payload ⟦<P as LayerFamilies>⟧.families self.now) buffer.old buffer.new result }
     {
         match self {
             // Begin: written by tables/generate from tables/kinds (encoding).
@@ -191,12 +192,13 @@ impl<P: LinkPeer> InfoDataOf<P> {
         }
     }
 }
+
 /// Written as an attribute of type 2 (`IFLA_INFO_DATA`). The payload is the encodings of the
 /// attributes, one after another.
-impl<P: LinkPeer> Nla for InfoDataOf<P> {
+impl<P: DataLayer> Nla for InfoDataOf<P> {
     ghost use Rattle.linkinfo_data.specs.InfoData.{data_attribute};
 
-    ghost attribute = { data_attribute P.LinkPeer.own };
+    ghost attribute = { data_attribute P.families };
 
     fn value_len(&self) -> usize {
         self.fit_len().unwrap_or(0)
@@ -207,7 +209,7 @@ impl<P: LinkPeer> Nla for InfoDataOf<P> {
     }
 
     fn emit_payload(&self, buffer: &mut [u8]) -> usize {
-        self.encode(Write, buffer)
+        P::write_data(self, buffer)
     }
 
     #[tactic(auto, using(nla_frame::proofs::Emitting::whole))]
@@ -216,11 +218,11 @@ impl<P: LinkPeer> Nla for InfoDataOf<P> {
     }
 
     fn fit_len(&self) -> Option<usize> {
-        self.encode(FitLen, &mut [])
+        P::data_fit_len(self)
     }
 }
 
-impl<P: ExactEq> ExactEq for InfoDataOf<P> {
+impl<P: LinkLayer + PartialEq> ExactEq for InfoDataOf<P> {
     ghost use Rattle.std.specs.Cmp.Lexicographic.{bytes_decides, pointwise_decides};
     ghost use Rattle.nla_frame.specs.Derived.{one_field};
     ghost use Rattle.linkinfo_data.specs.DataVariants.{by_variants};
@@ -254,14 +256,14 @@ impl<P: ExactEq> ExactEq for InfoDataOf<P> {
     // End: written by tables/generate.
     ghost use Rattle.std.proofs.Common.{rules};
 
-    ghost exact = { by_variants P.ExactEq _
+    ghost exact = { by_variants P.PartialEq P.Peer.ExactEq P.Bond.ExactEq P.Bridge.ExactEq P.Vlan.ExactEq P.Can.ExactEq P.Hsr.ExactEq P.Dsa.ExactEq P.Tun.ExactEq P.BondPort.ExactEq P.BridgePort.ExactEq _
         -- Begin: written by tables/generate from tables/kinds (fields).
-        (one_field (pointwise_decides (λ a b. Prim.search rules))
-        & one_field (pointwise_decides (λ a b. Prim.search rules))
-        & one_field (pointwise_decides (λ a b. Prim.search rules))
-        & one_field (λ x y. Prim.search (rules, P.exact))
+        (one_field (pointwise_decides P.Bridge.exact)
+        & one_field (pointwise_decides P.Tun.exact)
+        & one_field (pointwise_decides P.Vlan.exact)
+        & one_field (λ x y. Prim.search (rules, P.Peer.exact))
         & one_field (pointwise_decides vxlan.exact-law)
-        & one_field (pointwise_decides (λ a b. Prim.search rules))
+        & one_field (pointwise_decides P.Bond.exact)
         & one_field (pointwise_decides (λ a b. Prim.search rules))
         & one_field (pointwise_decides (λ a b. Prim.search rules))
         & one_field (pointwise_decides mac_vlan.exact-law)
@@ -278,16 +280,16 @@ impl<P: ExactEq> ExactEq for InfoDataOf<P> {
         & one_field (pointwise_decides (λ a b. Prim.search rules))
         & one_field (pointwise_decides xfrm.exact-law)
         & one_field (pointwise_decides mac_sec.exact-law)
-        & one_field (pointwise_decides (λ a b. Prim.search rules))
+        & one_field (pointwise_decides P.Hsr.exact)
         & one_field (pointwise_decides geneve.exact-law)
-        & one_field (pointwise_decides (λ a b. Prim.search (rules, P.exact)))
-        & one_field (λ x y. Prim.search (rules, P.exact))
+        & one_field (pointwise_decides (λ a b. Prim.search (rules, P.Peer.exact)))
+        & one_field (λ x y. Prim.search (rules, P.Peer.exact))
         & one_field (pointwise_decides amt.exact-law)
         & one_field (pointwise_decides bat_adv.exact-law)
         & one_field (pointwise_decides bare_udp.exact-law)
         & one_field (pointwise_decides wwan.exact-law)
-        & one_field (pointwise_decides (λ a b. Prim.search rules))
-        & one_field (pointwise_decides (λ a b. Prim.search rules))
+        & one_field (pointwise_decides P.Can.exact)
+        & one_field (pointwise_decides P.Dsa.exact)
         & one_field (pointwise_decides gre.exact-law)
         & one_field (pointwise_decides gre6.exact-law)
         & one_field (pointwise_decides (λ a b. Prim.search rules))

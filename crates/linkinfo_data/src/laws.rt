@@ -1,34 +1,48 @@
 //! Laws of data, each the contract of a function without code.
 
-ghost use Rattle.linkinfo_data.specs.Conditions.{AreStated};
+ghost use Rattle.linkinfo_data.specs.Conditions.{AreStated, opaque_families, own_conditions};
 ghost use Rattle.linkinfo_data.specs.Lawful.{AreLawful};
 ghost use Rattle.linkinfo_data.specs.Located.{AreLocated};
-ghost use Rattle.linkinfo_data.specs.Names.{AreNamed};
+ghost use Rattle.linkinfo_data.specs.Names.{AreNamed, AreNamedAfter};
 
-use linkinfo_table::LinkPeer;
+use crate::layer::DataLayer;
+use linkinfo_table::{LayerFamilies, LinkPeer};
 
-/// Data and port data of each family are lawful, by the laws of the rows of the family.
-pub fn families_lawful<P: LinkPeer>()
-    ensures { AreLawful P.LinkPeer.own }
+/// Data and port data of each family are lawful: by the laws of the rows of the family, or by those
+/// of the layer that supplies it.
+pub fn families_lawful<P: DataLayer>()
+    ensures { AreLawful P.families }
 {}
 
 /// Each error of data of a family is `(Frame, 0, Header)` or names the family. The same holds for
-/// port data. The families' names are in the tables `data_name` and `port_data_name`.
-pub fn errors_named<P: LinkPeer>()
-    ensures { AreNamed P.LinkPeer.own }
+/// port data. The families' names are in the tables `data_name` and `port_data_name`, in which the
+/// families that the layer supplies have the names that it gives.
+pub fn errors_named<P: DataLayer>()
+    ensures { AreNamed P.families }
+{}
+
+/// At a peer the families that its layer supplies have their names in the tables of names.
+pub fn opaque_names<P: LinkPeer>()
+    ensures { AreNamedAfter ⟦<P as LayerFamilies>⟧.families }
 {}
 
 /// Which data and which port data of each family are well formed, stated by variant. The variant is
 /// that of the family, and each attribute in it meets the conditions of its own family
 /// (`specs/Conditions.antt` of its crate). Without a family the variant is `Other`, which holds
-/// bytes.
+/// bytes. The families of a peer's layer are opaque.
 pub fn well_formed<P: LinkPeer>()
-    ensures { AreStated P.LinkPeer.own P.well }
+    ensures { AreStated ⟦<P as LayerFamilies>⟧.families opaque_families }
+{}
+
+/// The same of any layer: attributes of a family that the layer supplies meet the condition of that
+/// family.
+pub fn well_formed_by<P: DataLayer>()
+    ensures { AreStated P.families (own_conditions P.families) }
 {}
 
 /// Laws of `list_difference` and `list_error`, for families whose data or port data is a list. Two
 /// accepted payloads have no difference if and only if they are equivalent. A payload has no error
 /// if and only if it is accepted.
-pub fn located<P: LinkPeer>()
-    ensures { AreLocated P.LinkPeer.own }
+pub fn located<P: DataLayer>()
+    ensures { AreLocated P.families }
 {}

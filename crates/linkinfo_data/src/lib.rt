@@ -11,6 +11,7 @@ mod encode;
 mod families;
 mod info_data;
 pub mod laws;
+mod layer;
 mod lower;
 mod payload_family;
 mod peers;
@@ -25,11 +26,12 @@ pub use devices::DeviceFamily;
 pub use difference::{Difference, list_difference, list_error};
 pub use families::{Plain, PlainFamilies};
 pub use info_data::{InfoData, InfoDataOf};
+pub use layer::DataLayer;
 pub use lower::LowerFamily;
 pub use payload_family::{
     PayloadFamily, check_payload, measure_payload, same_payloads, write_canonical_payload,
 };
 pub use peers::PeeredFamily;
-pub use port_data::{InfoPortData, PortFamily, port_family_of};
+pub use port_data::{InfoPortData, InfoPortDataOf, PortFamily, port_family_of};
 pub use tunnels::TunnelFamily;
 pub use unmet::{Unmet, UnmetAt, earlier, list_unmet};

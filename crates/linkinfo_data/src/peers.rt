@@ -9,10 +9,10 @@ use crate::info_data::InfoDataOf;
 use crate::payload_family::PayloadFamily;
 // Begin: written by tables/generate from tables/kinds (types).
 use linkinfo_peers::{
-    InfoBatAdv, InfoNetkitOf, InfoPfcp, InfoTun, InfoVethOf, InfoVxcanOf, InfoWireguard, InfoWwan,
+    InfoBatAdv, InfoNetkitOf, InfoPfcp, InfoVethOf, InfoVxcanOf, InfoWireguard, InfoWwan,
 };
 // End: written by tables/generate.
-use linkinfo_table::LinkPeer;
+use linkinfo_table::{LayerFamilies, LinkFamily, LinkLayer};
 use nla_frame::{DecodeError, ExactEq, Family, HeaderCount};
 use std::alloc::Global;
 
@@ -21,7 +21,7 @@ use std::alloc::Global;
 #[derive(Clone, Copy, Debug, PartialEq, Eq)]
 pub enum PeeredFamily {
     // Begin: written by tables/generate from tables/kinds (variants).
-    /// Attributes of `tun` links (`IFLA_TUN_*`), kept verbatim.
+    /// Attributes of `tun` links (`IFLA_TUN_*`), which the layer supplies.
     Tun,
     /// The attribute of `veth` links (`VETH_INFO_*`): the first one of their data.
     Veth,
@@ -51,13 +51,17 @@ macro_rules! of_peered {
     ($family:expr, $call:ident $given:tt) => {
         match $family {
             // Begin: written by tables/generate from tables/kinds (calls).
-            PeeredFamily::Tun => $call!(list(InfoDataOf::Tun, InfoTun, ()) $given),
-            PeeredFamily::Veth => $call!(first(InfoDataOf::Veth, InfoVethOf<P>, ()) $given),
+            PeeredFamily::Tun => $call!(list(InfoDataOf::Tun, P::Tun, ()) $given),
+            PeeredFamily::Veth => $call!(first(InfoDataOf::Veth, InfoVethOf<P::Peer>, ()) $given),
             PeeredFamily::Wireguard => {
                 $call!(list(InfoDataOf::Wireguard, InfoWireguard, ()) $given)
             }
-            PeeredFamily::Netkit => $call!(list(InfoDataOf::Netkit, InfoNetkitOf<P>, ()) $given),
-            PeeredFamily::Vxcan => $call!(first(InfoDataOf::Vxcan, InfoVxcanOf<P>, ()) $given),
+            PeeredFamily::Netkit => {
+                $call!(list(InfoDataOf::Netkit, InfoNetkitOf<P::Peer>, ()) $given)
+            }
+            PeeredFamily::Vxcan => {
+                $call!(first(InfoDataOf::Vxcan, InfoVxcanOf<P::Peer>, ()) $given)
+            }
             PeeredFamily::BatAdv => $call!(list(InfoDataOf::BatAdv, InfoBatAdv, ()) $given),
             PeeredFamily::Wwan => $call!(list(InfoDataOf::Wwan, InfoWwan, ()) $given),
             PeeredFamily::Pfcp => $call!(list(InfoDataOf::Pfcp, InfoPfcp, ()) $given),
@@ -66,19 +70,19 @@ macro_rules! of_peered {
     };
 }
 
-impl<P: LinkPeer> PayloadFamily<InfoDataOf<P>> for PeeredFamily {
-    ghost data_of = { λ family. peers_data_of P.LinkPeer.own family };
+impl<P: LinkLayer> PayloadFamily<InfoDataOf<P>> for PeeredFamily {
+    ghost data_of = { λ family. peers_data_of ⟦<P as LayerFamilies>⟧.families family };
 
-    ghost known = { λ family. peers_known P.LinkPeer.own family };
+    ghost known = { λ family. peers_known ⟦<P as LayerFamilies>⟧.families family };
 
     ghost nested_in = { λ _. None };
 
-    ghost nests = { λ family. peers_nest P.LinkPeer.own family };
+    ghost nests = { λ family. peers_nest ⟦<P as LayerFamilies>⟧.families family };
 
     fn listing(self) -> Option<Family> {
         match self {
             // Begin: written by tables/generate from tables/kinds (listing).
-            PeeredFamily::Tun => Some(Family::Tun),
+            PeeredFamily::Tun => Some(<P::Tun as LinkFamily>::FAMILY),
             PeeredFamily::Veth => None,
             PeeredFamily::Wireguard => Some(Family::Wireguard),
             PeeredFamily::Netkit => Some(Family::Netkit),

@@ -12,22 +12,22 @@ ghost use Rattle.linkinfo_data.specs.PortData.{
 };
 
 use crate::ask::Ask;
-use crate::calls::{ask, read};
-use crate::encode::{Encode, FitLen, Write};
+use crate::encode::Encode;
+use crate::layer::DataLayer;
 use crate::payload_family::PayloadFamily;
 use linkinfo_devices::InfoVrfPort;
 use linkinfo_numbers::{IFLA_INFO_SLAVE_DATA, InfoPortKind, PortTag};
 use linkinfo_peers::InfoTeamPort;
-use linkinfo_table::lower::{InfoBondPort, InfoBridgePort};
+use linkinfo_table::{LayerFamilies, LinkLayer};
 use nla_frame::{Bytes, DecodeError, ExactEq, Family, HeaderCount, Nla, Nlas};
 use std::alloc::Global;
 
 /// The family of the attributes in `IFLA_INFO_SLAVE_DATA`, which the kind of the port chooses.
 #[derive(Clone, Copy, Debug, PartialEq, Eq)]
 pub enum PortFamily {
-    /// Attributes of ports of a `bond` link (`IFLA_BOND_SLAVE_*`), kept verbatim.
+    /// Attributes of ports of a `bond` link (`IFLA_BOND_SLAVE_*`), which the layer supplies.
     Bond,
-    /// Attributes of ports of a `bridge` link (`IFLA_BRPORT_*`), kept verbatim.
+    /// Attributes of ports of a `bridge` link (`IFLA_BRPORT_*`), which the layer supplies.
     Bridge,
     /// Attributes of ports of a `vrf` link (`IFLA_VRF_PORT_*`).
     Vrf,
@@ -57,13 +57,14 @@ pub fn port_family_of(tag: PortTag) -> PortFamily
 }
 
 /// The data of a port (`IFLA_INFO_SLAVE_DATA`): the attributes of its port kind's family, or bytes
-/// if the port kind has no family.
+/// if the port kind has no family. `P` is the layer that supplies the families of ports of bonds and
+/// of bridges: at a `LinkPeer` these are opaque.
 #[derive(Debug, PartialEq, Eq, Clone, Drop)]
-pub enum InfoPortData {
-    /// Attributes of a port of a `bond` link (`IFLA_BOND_SLAVE_*`), kept verbatim.
-    BondPort(Nlas<InfoBondPort>),
-    /// Attributes of a port of a `bridge` link (`IFLA_BRPORT_*`), kept verbatim.
-    BridgePort(Nlas<InfoBridgePort>),
+pub enum InfoPortDataOf<P: LinkLayer> {
+    /// Attributes of a port of a `bond` link (`IFLA_BOND_SLAVE_*`), which the layer supplies.
+    BondPort(Nlas<P::BondPort>),
+    /// Attributes of a port of a `bridge` link (`IFLA_BRPORT_*`), which the layer supplies.
+    BridgePort(Nlas<P::BridgePort>),
     /// Attributes of a port of a `vrf` link (`IFLA_VRF_PORT_*`).
     VrfPort(Nlas<InfoVrfPort>),
     /// Attributes of a port of a `team` link, kept verbatim.
@@ -72,36 +73,20 @@ pub enum InfoPortData {
     Other(Bytes),
 }
 
-/// Matches a family of ports, and expands `$call!`, of `calls`, for its data.
-macro_rules! of_port {
-    ($family:expr, $call:ident $given:tt) => {
-        match $family {
-            PortFamily::Bond => $call!(list(InfoPortData::BondPort, InfoBondPort, ()) $given),
-            PortFamily::Bridge => $call!(list(InfoPortData::BridgePort, InfoBridgePort, ()) $given),
-            PortFamily::Vrf => $call!(list(InfoPortData::VrfPort, InfoVrfPort, ()) $given),
-            PortFamily::Team => $call!(list(InfoPortData::TeamPort, InfoTeamPort, ()) $given),
-            PortFamily::Raw => $call!(bytes(InfoPortData::Other) $given),
-        }
-    };
-}
+/// The data of a port (`IFLA_INFO_SLAVE_DATA`), with opaque families.
+pub type InfoPortData = InfoPortDataOf<Bytes>;
 
-impl PayloadFamily<InfoPortData> for PortFamily {
-    ghost data_of = { port_data_of };
+impl<P: DataLayer> PayloadFamily<InfoPortDataOf<P>> for PortFamily {
+    ghost data_of = { port_data_of P.families };
 
-    ghost known = { port_known };
+    ghost known = { port_known P.families };
 
     ghost nested_in = { λ _. None };
 
-    ghost nests = { port_nest };
+    ghost nests = { port_nest P.families };
 
     fn listing(self) -> Option<Family> {
-        match self {
-            PortFamily::Bond => Some(Family::BondPort),
-            PortFamily::Bridge => Some(Family::BridgePort),
-            PortFamily::Vrf => Some(Family::Vrf),
-            PortFamily::Team => Some(Family::TeamPort),
-            PortFamily::Raw => None,
-        }
+        P::port_data_listing(self)
     }
 
     fn nested(self) -> Option<(u16, Self)> {
@@ -113,17 +98,17 @@ impl PayloadFamily<InfoPortData> for PortFamily {
         alloc: Global,
         payload: &[u8],
         count: &mut HeaderCount,
-    ) -> Result<InfoPortData, DecodeError> {
-        Ok(of_port!(self, read(alloc, payload, count)))
+    ) -> Result<InfoPortDataOf<P>, DecodeError> {
+        P::read_port_data(self, alloc, payload, count)
     }
 
     #[inline(always)]
     fn ask<Q: Ask>(self, question: Q, count: &mut HeaderCount, buffer: &mut [u8]) -> Q::Answer {
-        of_port!(self, ask(question, count, buffer))
+        P::ask_port_data(self, question, count, buffer)
     }
 }
 
-impl InfoPortData {
+impl<P: DataLayer> InfoPortDataOf<P> {
     /// Parses the payload of `IFLA_INFO_SLAVE_DATA` of a port of this kind.
     ///
     /// The result holds the attributes of the port kind's family, or the bytes if the port kind has
@@ -136,40 +121,45 @@ impl InfoPortData {
         alloc: Global,
         payload: &[u8],
         kind: &InfoPortKind,
-    ) -> Result<InfoPortData, DecodeError>
+    ) -> Result<InfoPortDataOf<P>, DecodeError>
         ensures answer { Gives (λ value. value) result
-            ((port_data_of (port_family_of (tag_of_port_kind kind.now))).means payload.now) }
+            ((port_data_of P.families
+            (port_family_of (tag_of_port_kind kind.now))).means payload.now) }
         ensures certain { CertainUnless
-            ((port_data_of (port_family_of (tag_of_port_kind kind.now))).needs_memory payload.now)
+            ((port_data_of P.families
+            (port_family_of (tag_of_port_kind kind.now))).needs_memory payload.now)
             (λ value. value) result
-            ((port_data_of (port_family_of (tag_of_port_kind kind.now))).means payload.now) }
+            ((port_data_of P.families
+            (port_family_of (tag_of_port_kind kind.now))).means payload.now) }
     {
         let mut count = HeaderCount::new();
         port_family_of(kind.tag()).read(alloc, payload, &mut count)
     }
+}
 
+impl<P: LinkLayer> InfoPortDataOf<P> {
     /// Encodes the data: the encodings of the attributes, one after another, or the bytes.
     #[tactic(auto, unfolding(crate::specs::PortData::port_data_payload))]
-    fn encode<E: Encode>(&self, encode: E, buffer: &mut [u8]) -> E::Answer
-        requires { E.ready (port_data_payload self.now) buffer.old }
-        ensures { E.answered (port_data_payload self.now) buffer.old buffer.new result }
+    pub(crate) fn encode<E: Encode>(&self, encode: E, buffer: &mut [u8]) -> E::Answer
+        requires { E.ready (port_data_payload ⟦<P as LayerFamilies>⟧.families self.now) buffer.old }
+        ensures { E.answered (port_data_payload ⟦<P as LayerFamilies>⟧.families self.now) buffer.old buffer.new result }
     {
         match self {
-            InfoPortData::BondPort(list) => encode.list(list, buffer),
-            InfoPortData::BridgePort(list) => encode.list(list, buffer),
-            InfoPortData::VrfPort(list) => encode.list(list, buffer),
-            InfoPortData::TeamPort(list) => encode.list(list, buffer),
-            InfoPortData::Other(bytes) => encode.bytes(bytes.as_slice(), buffer),
+            InfoPortDataOf::BondPort(list) => encode.list(list, buffer),
+            InfoPortDataOf::BridgePort(list) => encode.list(list, buffer),
+            InfoPortDataOf::VrfPort(list) => encode.list(list, buffer),
+            InfoPortDataOf::TeamPort(list) => encode.list(list, buffer),
+            InfoPortDataOf::Other(bytes) => encode.bytes(bytes.as_slice(), buffer),
         }
     }
 }
 
 /// Written as an attribute of type 5 (`IFLA_INFO_SLAVE_DATA`). The payload is the encodings of the
 /// attributes, one after another.
-impl Nla for InfoPortData {
+impl<P: DataLayer> Nla for InfoPortDataOf<P> {
     ghost use Rattle.linkinfo_data.specs.PortData.{port_data_attribute};
 
-    ghost attribute = { port_data_attribute };
+    ghost attribute = { port_data_attribute P.families };
 
     fn value_len(&self) -> usize {
         self.fit_len().unwrap_or(0)
@@ -180,7 +170,7 @@ impl Nla for InfoPortData {
     }
 
     fn emit_payload(&self, buffer: &mut [u8]) -> usize {
-        self.encode(Write, buffer)
+        P::write_port_data(self, buffer)
     }
 
     #[tactic(auto, using(nla_frame::proofs::Emitting::whole))]
@@ -189,21 +179,21 @@ impl Nla for InfoPortData {
     }
 
     fn fit_len(&self) -> Option<usize> {
-        self.encode(FitLen, &mut [])
+        P::port_data_fit_len(self)
     }
 }
 
-impl ExactEq for InfoPortData {
+impl<P: LinkLayer + PartialEq> ExactEq for InfoPortDataOf<P> {
     ghost use Rattle.std.specs.Cmp.Lexicographic.{bytes_decides, pointwise_decides};
     ghost use Rattle.linkinfo_devices.specs.contracts.vrf.InfoVrfExactEq.TheImpl.Laws as vrf_port;
-    ghost use Rattle.nla_frame.specs.Derived.{derived_decides, one_field};
+    ghost use Rattle.nla_frame.specs.Derived.{one_field};
+    ghost use Rattle.linkinfo_data.specs.PortVariants.{by_variants};
     ghost use Rattle.nla_frame.specs.Pairs.{◌&◌};
-    ghost use Rattle.linkinfo_data.specs.contracts.port_data.InfoPortData.{enum};
     ghost use Rattle.std.proofs.Common.{rules};
 
-    ghost exact = { derived_decides enum _
-        (one_field (pointwise_decides (λ a b. Prim.search rules))
-        & one_field (pointwise_decides (λ a b. Prim.search rules))
+    ghost exact = { by_variants P.PartialEq P.Peer.ExactEq P.Bond.ExactEq P.Bridge.ExactEq P.Vlan.ExactEq P.Can.ExactEq P.Hsr.ExactEq P.Dsa.ExactEq P.Tun.ExactEq P.BondPort.ExactEq P.BridgePort.ExactEq _
+        (one_field (pointwise_decides P.BondPort.exact)
+        & one_field (pointwise_decides P.BridgePort.exact)
         & one_field (pointwise_decides vrf_port.exact-law)
         & one_field (pointwise_decides (λ a b. Prim.search rules))
         & one_field bytes_decides

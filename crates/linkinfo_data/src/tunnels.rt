@@ -8,7 +8,7 @@ use crate::calls::{ask, read};
 use crate::info_data::InfoDataOf;
 use crate::payload_family::PayloadFamily;
 use linkinfo_numbers::KindTag;
-use linkinfo_table::LinkPeer;
+use linkinfo_table::{LayerFamilies, LinkLayer};
 // Begin: written by tables/generate from tables/kinds (types).
 use linkinfo_tunnels::{
     InfoAmt, InfoBareUdp, InfoGeneve, InfoGre, InfoGre6, InfoGtp, InfoIpTunnel, InfoVti, InfoVxlan,
@@ -102,14 +102,14 @@ macro_rules! of_tunnel {
     };
 }
 
-impl<P: LinkPeer> PayloadFamily<InfoDataOf<P>> for TunnelFamily {
-    ghost data_of = { λ family. tunnels_data_of family };
+impl<P: LinkLayer> PayloadFamily<InfoDataOf<P>> for TunnelFamily {
+    ghost data_of = { λ family. tunnels_data_of ⟦<P as LayerFamilies>⟧.families family };
 
-    ghost known = { λ family. tunnels_known _ family };
+    ghost known = { λ family. tunnels_known ⟦<P as LayerFamilies>⟧.families family };
 
     ghost nested_in = { λ _. None };
 
-    ghost nests = { λ family. tunnels_nest _ family };
+    ghost nests = { λ family. tunnels_nest ⟦<P as LayerFamilies>⟧.families family };
 
     fn listing(self) -> Option<Family> {
         match self {

@@ -32,14 +32,13 @@ use Rattle.std.proofs.lemmas.Bool.Decides.{
 }
 use Rattle.hex.specs.Hex.{encode_lower}
 use Rattle.nla_frame.specs.Attribute.{Attribute, Fits, ListFits, list_string}
-use Rattle.nla_frame.specs.declared.bytes.Bytes.{Bytes}
 use Rattle.nla_frame.specs.declared.error.DecodeError.{DecodeError}
-use Rattle.linkinfo_data.specs.BytesPeer.{bytes_peer}
+use Rattle.linkinfo_data.specs.BytesLayer.{bytes_layer}
 use Rattle.linkinfo.specs.Canon.{CanonRefuses, IsCanonical, IsUnfit}
 use Rattle.linkinfo.specs.declared.canonical.CanonError.{CanonError}
 use Rattle.linkinfo.specs.declared.canonical.CanonError.TheVariants as refused
 use Rattle.linkinfo.specs.Items.{link_attribute}
-use Rattle.linkinfo.specs.declared.link_info.LinkInfoOf.{LinkInfoOf}
+use Rattle.linkinfo.specs.Layered.{Links}
 use Rattle.linkinfo_lines.specs.Answers.{canon_text, canonical_text, list_fits, word_of}
 
 short_decides : (n : ℕ) → Decides (nat_le n 65531) (n ≤ 65531)
@@ -99,28 +98,28 @@ canonical_text-unfit attributes h =
 
 -- the result of `canon`, given what the byte string means
 
-pub canon_text-none : (meaning : Result (List (LinkInfoOf Bytes)) DecodeError) (bytes : List ℕ) →
-    IsCanonical (link_attribute bytes_peer) meaning bytes →
+pub canon_text-none : (meaning : Result (Links bytes_layer) DecodeError) (bytes : List ℕ) →
+    IsCanonical (link_attribute bytes_layer) meaning bytes →
     (length bytes == 0) ≡ true → canon_text meaning ≡ codes "-"
 canon_text-none (Ok list) bytes h none =
-    canonical_text-none (map (link_attribute bytes_peer) list) bytes h.0 h.1 none
+    canonical_text-none (map (link_attribute bytes_layer) list) bytes h.0 h.1 none
 canon_text-none (Err error) bytes h none = absurd h
 
-pub canon_text-some : (meaning : Result (List (LinkInfoOf Bytes)) DecodeError) (bytes : List ℕ) →
-    IsCanonical (link_attribute bytes_peer) meaning bytes →
+pub canon_text-some : (meaning : Result (Links bytes_layer) DecodeError) (bytes : List ℕ) →
+    IsCanonical (link_attribute bytes_layer) meaning bytes →
     (length bytes == 0) ≡ false → canon_text meaning ≡ encode_lower bytes
 canon_text-some (Ok list) bytes h some =
-    canonical_text-some (map (link_attribute bytes_peer) list) bytes h.0 h.1 some
+    canonical_text-some (map (link_attribute bytes_layer) list) bytes h.0 h.1 some
 canon_text-some (Err error) bytes h some = absurd h
 
-canon_text-none_fits : (meaning : Result (List (LinkInfoOf Bytes)) DecodeError) →
-    IsUnfit (link_attribute bytes_peer) meaning → canon_text meaning ≡ codes "unfit"
-canon_text-none_fits (Ok list) h = canonical_text-unfit (map (link_attribute bytes_peer) list) h
+canon_text-none_fits : (meaning : Result (Links bytes_layer) DecodeError) →
+    IsUnfit (link_attribute bytes_layer) meaning → canon_text meaning ≡ codes "unfit"
+canon_text-none_fits (Ok list) h = canonical_text-unfit (map (link_attribute bytes_layer) list) h
 canon_text-none_fits (Err error) h = absurd h
 
-pub canon_text-unfit : {X : Type 0} (meaning : Result (List (LinkInfoOf Bytes)) DecodeError)
+pub canon_text-unfit : {X : Type 0} (meaning : Result (Links bytes_layer) DecodeError)
     (result : Result X CanonError) → result ≡ Err refused.Unfit →
-    IfErr result (CanonRefuses (link_attribute bytes_peer) meaning) →
+    IfErr result (CanonRefuses (link_attribute bytes_layer) meaning) →
     canon_text meaning ≡ codes "unfit"
 canon_text-unfit meaning (Ok x) is h = absurd cc
 canon_text-unfit meaning (Err (refused.Refused error)) is h = absurd cc

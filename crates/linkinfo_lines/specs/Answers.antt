@@ -34,12 +34,11 @@ use Rattle.nla_frame.specs.Answers.{verdict}
 use Rattle.nla_frame.specs.Attribute.{Attribute, list_string}
 use Rattle.nla_frame.specs.Error.{error_text}
 use Rattle.nla_frame.specs.declared.error.DecodeError.{DecodeError}
-use Rattle.linkinfo_data.specs.BytesPeer.{bytes_peer}
-use Rattle.nla_frame.specs.declared.bytes.Bytes.{Bytes}
+use Rattle.linkinfo_data.specs.BytesLayer.{bytes_layer}
 use Rattle.linkinfo.specs.Comparing.{same_answer}
 use Rattle.linkinfo.specs.Items.{link_attribute}
 use Rattle.linkinfo.specs.Strings.{reading, alike_strings}
-use Rattle.linkinfo.specs.declared.link_info.LinkInfoOf.{LinkInfoOf}
+use Rattle.linkinfo.specs.Layered.{Links}
 use Rattle.linkinfo_lines.specs.Lines.{lines_of, words_of}
 
 -- ---- bytes as hex
@@ -81,8 +80,8 @@ abbrev pub canonical_text : List Attribute → List ℕ
 canonical_text attributes = if list_fits attributes then word_of (list_string attributes)
     else codes "unfit"
 
-abbrev pub canon_text : Result (List (LinkInfoOf Bytes)) DecodeError → List ℕ
-canon_text (Ok items) = canonical_text (map (link_attribute bytes_peer) items)
+abbrev pub canon_text : Result (Links bytes_layer) DecodeError → List ℕ
+canon_text (Ok items) = canonical_text (map (link_attribute bytes_layer) items)
 canon_text (Err error) = error_answer error
 
 abbrev pub same_text : Result Bool DecodeError → List ℕ
@@ -96,17 +95,17 @@ about (Some bytes) text = text bytes
 about None text = bad_line
 
 abbrev pub check_answer : List ℕ → List ℕ
-check_answer word = about (bytes_of word) (λ s. check_text (verdict (reading bytes_peer s)))
+check_answer word = about (bytes_of word) (λ s. check_text (verdict (reading bytes_layer s)))
 
 abbrev pub canon_answer : List ℕ → List ℕ
-canon_answer word = about (bytes_of word) (λ s. canon_text (reading bytes_peer s))
+canon_answer word = about (bytes_of word) (λ s. canon_text (reading bytes_layer s))
 
 abbrev pub comparison_answer : List ℕ → List ℕ → List ℕ
 comparison_answer first second =
     about (bytes_of first) (λ a.
     about (bytes_of second) (λ b.
     same_text
-    (same_answer (reading bytes_peer a) (reading bytes_peer b) (alike_strings bytes_peer a b))))
+    (same_answer (reading bytes_layer a) (reading bytes_layer b) (alike_strings bytes_layer a b))))
 
 -- ---- lines
 

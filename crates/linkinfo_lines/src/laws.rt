@@ -24,7 +24,7 @@ ghost use Rattle.hex.specs.Hex.{IsBytes, encode_upper, is_hex_digit};
 ghost use Rattle.nla_frame.specs.Answers.{verdict};
 ghost use Rattle.nla_frame.specs.Attribute.{Attribute, ListFits};
 ghost use Rattle.nla_frame.specs.Error.{memory_error};
-ghost use Rattle.linkinfo_data.specs.BytesPeer.{bytes_peer};
+ghost use Rattle.linkinfo_data.specs.BytesLayer.{bytes_layer};
 ghost use Rattle.linkinfo.specs.Comparing.{same_answer};
 ghost use Rattle.linkinfo.specs.Strings.{alike_strings, reading};
 ghost use Rattle.linkinfo_lines.specs.Answers.{
@@ -88,10 +88,10 @@ pub fn fitting()
 
 /// No result is a failed allocation: none of the errors that `check`, `canon` and `same` write is.
 pub fn no_memory()
-    ensures check { (s : List ℕ) → verdict (reading bytes_peer s) ≢ Err memory_error }
-    ensures canon { (s : List ℕ) → reading bytes_peer s ≢ Err memory_error }
+    ensures check { (s : List ℕ) → verdict (reading bytes_layer s) ≢ Err memory_error }
+    ensures canon { (s : List ℕ) → reading bytes_layer s ≢ Err memory_error }
     ensures same { (a b : List ℕ) →
-        same_answer (reading bytes_peer a) (reading bytes_peer b) (alike_strings bytes_peer a b)
+        same_answer (reading bytes_layer a) (reading bytes_layer b) (alike_strings bytes_layer a b)
         ≢ Err memory_error }
 {
     linkinfo::laws::no_memory::<Bytes>();

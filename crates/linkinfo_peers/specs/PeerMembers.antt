@@ -34,6 +34,7 @@ netkit_members peer =
 -- two families define the same
 pub record AreSame {X : Type 0} (f g : Members X) : Type 0 where
   pub family : f.family ≡ g.family
+  pub inner : f.inner ≡ g.inner
   pub meaning : (a : Attribute) → f.meaning a ≡ g.meaning a
   pub headers : (a : Attribute) → f.headers a ≡ g.headers a
   pub alike : (a b : Attribute) → f.alike a b ≡ g.alike a b
@@ -44,6 +45,7 @@ pub record AreSame {X : Type 0} (f g : Members X) : Type 0 where
 pub same_as_itself : {X : Type 0} (f : Members X) → AreSame f f
 same_as_itself f = record {
   family = refl;
+  inner = refl;
   meaning = λ _. refl;
   headers = λ _. refl;
   alike = λ _ _. refl;

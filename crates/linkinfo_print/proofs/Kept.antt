@@ -31,7 +31,7 @@ use Rattle.nla_frame.specs.Attribute.{Attribute, masked}
 use Rattle.nla_frame.specs.NlaItems.{nla_items, seen}
 use Rattle.nla_frame.specs.declared.error.DecodeError.{DecodeError}
 use Rattle.nla_frame.proofs.Stepping.{by_nla_items, nla_items_nil}
-use Rattle.linkinfo_data.specs.BytesPeer.{bytes_peer}
+use Rattle.linkinfo_data.specs.BytesLayer.{bytes_layer}
 use Rattle.linkinfo.specs.Items.{link_meaning}
 use Rattle.linkinfo.specs.Roles.{kinds_after, no_kinds, role_at}
 use Rattle.linkinfo.specs.Strings.{kinds_after_all, next_kinds, reading, values_from}
@@ -70,7 +70,7 @@ never (Err d) e is ok = cc
 
 abbrev WalksEach : List ℕ → Type 0
 WalksEach z =
-    (t : CurrentKinds) → IsOk (values_from bytes_peer t (nla_items z)) →
+    (t : CurrentKinds) → IsOk (values_from bytes_layer t (nla_items z)) →
     walk_items t (nla_items z) ≡ accepted (whole (nla_items z))
 
 walks_none : WalksEach []
@@ -80,7 +80,7 @@ walks_none t ok =
 
 walks_rest : (z : List ℕ) → nla_items z ≡ Err (seen z) ∷ [] → WalksEach z
 walks_rest z broken t ok =
-    absurd (never _ _ (ap (values_from bytes_peer t) broken) ok)
+    absurd (never _ _ (ap (values_from bytes_layer t) broken) ok)
 
 walks_more : (z : List ℕ) (a : Attribute) (rest : List ℕ) → nla_items z ≡ Ok a ∷ nla_items rest →
     WalksEach rest → WalksEach z
@@ -92,15 +92,15 @@ walks_more z a rest is more t ok =
         item_or_error a k (λ u. walk_items u (nla_items rest))
         ≡ Ok a ∷ accepted (whole (nla_items rest))
     go (Ok u) e =
-        let first = front bytes_peer t a z rest is ok in
+        let first = front bytes_layer t a z rest is ok in
         ap (λ (xs : Items). Ok a ∷ xs)
-        (more u (subst (λ (v : CurrentKinds). IsOk (values_from bytes_peer v (nla_items rest)))
+        (more u (subst (λ (v : CurrentKinds). IsOk (values_from bytes_layer v (nla_items rest)))
         (after_is t u a e) first.more))
     go (Err d) e =
-        let first = front bytes_peer t a z rest is ok in
-        absurd (never (link_meaning bytes_peer t a) d
-        (meaning_is bytes_peer t a (role_at t a) refl
-        ∙ (own_error_is bytes_peer (role_at t a) t a d e).0) first.first)
+        let first = front bytes_layer t a z rest is ok in
+        absurd (never (link_meaning bytes_layer t a) d
+        (meaning_is bytes_layer t a (role_at t a) refl
+        ∙ (own_error_is bytes_layer (role_at t a) t a d e).0) first.first)
 
 walks_each : (z : List ℕ) → WalksEach z
 walks_each z = by_nla_items WalksEach walks_none (λ y some broken. walks_rest y broken)

@@ -17,7 +17,7 @@ use Rattle.std.specs.Prelude.{
 use Rattle.nla_frame.specs.Attribute.{Attribute}
 use Rattle.nla_frame.specs.NlaItems.{nla_items}
 use Rattle.nla_frame.specs.declared.error.DecodeError.{DecodeError}
-use Rattle.linkinfo_data.specs.BytesPeer.{bytes_peer}
+use Rattle.linkinfo_data.specs.BytesLayer.{bytes_layer}
 use Rattle.linkinfo.specs.Roles.{no_kinds, role_at}
 use Rattle.linkinfo.specs.Strings.{kinds_after_all, reading}
 use Rattle.linkinfo.specs.Walks.{walk_items}
@@ -41,7 +41,7 @@ accepted (a ∷ more) = Ok a ∷ accepted more
 
 -- Of an accepted list these are all its attributes.
 abbrev pub HasEach : List ℕ → Type 0
-HasEach s = IsOk (reading bytes_peer s) → items_in s ≡ accepted (attributes s)
+HasEach s = IsOk (reading bytes_layer s) → items_in s ≡ accepted (attributes s)
 
 -- An attribute of a list is shown if its type has a name and no later attribute has the type. Then
 -- the object has a member of that name: its value, by its role under the kinds before it.

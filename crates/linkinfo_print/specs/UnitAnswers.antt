@@ -31,7 +31,7 @@ use Rattle.std.specs.Prelude.{
 use Rattle.std.specs.Char.{is_ascii_whitespace}
 use Rattle.std.specs.List.{prefix_len, suffix_len}
 use Rattle.nla_frame.specs.declared.error.DecodeError.{DecodeError}
-use Rattle.linkinfo_data.specs.BytesPeer.{bytes_peer}
+use Rattle.linkinfo_data.specs.BytesLayer.{bytes_layer}
 use Rattle.linkinfo.specs.Difference.{strings_difference}
 use Rattle.linkinfo.specs.Placed.{IsErrorAt}
 use Rattle.linkinfo.specs.Strings.{reading}
@@ -85,29 +85,29 @@ pub record IsListSentence (s before : List ℕ) (refused : Refusal) : Type 0 whe
   pub error : DecodeError
   pub place : ℕ
   pub inner : ℕ
-  pub is_error : IsErrorAt bytes_peer s error place inner
+  pub is_error : IsErrorAt bytes_layer s error place inner
   pub is : refused ≡ refusal (before ++ list_error_text error inner)
 
 -- an accepted list is its JSON data, and any other the sentence of its error
 abbrev pub IsListAnswer : List ℕ → Answer → Type 0
-IsListAnswer s (Ok value) = IsOk (reading bytes_peer s) × (value ≡ (printed.List, list_data s))
+IsListAnswer s (Ok value) = IsOk (reading bytes_layer s) × (value ≡ (printed.List, list_data s))
 IsListAnswer s (Err refused) = IsListSentence s [] refused
 
 -- the answer to a question about two accepted lists
 abbrev pub answer_data : Question → List ℕ → List ℕ → Data
 answer_data question.Equal a b = pair_data question.Equal a b
-    (option_map pair_of_difference (strings_difference bytes_peer a b))
+    (option_map pair_of_difference (strings_difference bytes_layer a b))
 answer_data question.Met a b = pair_data question.Met a b
-    (option_map pair_of_unmet (strings_unmet bytes_peer a b))
+    (option_map pair_of_unmet (strings_unmet bytes_layer a b))
 
 abbrev pub IsPairAnswer : Question → List ℕ → List ℕ → Answer → Type 0
 IsPairAnswer q a b (Ok value) =
-    IsOk (reading bytes_peer a)
-    × IsOk (reading bytes_peer b)
+    IsOk (reading bytes_layer a)
+    × IsOk (reading bytes_layer b)
     × (value ≡ (printed.Pair, answer_data q a b))
 IsPairAnswer q a b (Err refused) =
     IsListSentence a (codes "first list: ") refused
-    ⊎ (IsOk (reading bytes_peer a) × IsListSentence b (codes "second list: ") refused)
+    ⊎ (IsOk (reading bytes_layer a) × IsListSentence b (codes "second list: ") refused)
 
 -- ---- lines
 
@@ -181,7 +181,7 @@ abbrev pub IsContentsAnswer : ℕ → Time → Link → Option (ℕ × List ℕ)
 IsContentsAnswer place time link None answer =
     answer ≡ Ok (printed.Message, link_data time link None)
 IsContentsAnswer place time link (Some info) (Ok value) =
-    IsOk (reading bytes_peer info.1)
+    IsOk (reading bytes_layer info.1)
     × (value ≡ (printed.Message, link_data time link (Some (list_data info.1))))
 IsContentsAnswer place time link (Some info) (Err refused) =
     IsListSentence info.1 (list_of_link link.index (offset_after place info.0)) refused

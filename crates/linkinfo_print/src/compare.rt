@@ -13,7 +13,7 @@ ghost use Rattle.std.specs.Prelude.{
   codes,
   option_map,
 };
-ghost use Rattle.linkinfo_data.specs.BytesPeer.{bytes_peer};
+ghost use Rattle.linkinfo_data.specs.BytesLayer.{bytes_layer};
 ghost use Rattle.linkinfo.specs.Difference.{strings_difference};
 ghost use Rattle.linkinfo.specs.Strings.{reading};
 ghost use Rattle.linkinfo.specs.Unmet.{strings_unmet};
@@ -304,8 +304,8 @@ fn pair_of_unmet(unmet: Option<Unmet>) -> Option<Pair>
 
 /// The error of a rejected list, with its offsets.
 fn placed(bytes: &[u8], error: DecodeError) -> ErrorAt
-    requires { reading bytes_peer bytes.now ≡ Err error }
-    ensures { IsErrorAt bytes_peer bytes.now result.error result.place result.inner }
+    requires { reading bytes_layer bytes.now ≡ Err error }
+    ensures { IsErrorAt bytes_layer bytes.now result.error result.place result.inner }
 {
     match check_at(bytes) {
         Err(at) => at,
@@ -336,11 +336,11 @@ fn pair_error(a: &[u8], b: &[u8], error: ErrorIn) -> PairError
 pub fn difference_json(alloc: Global, a: &[u8], b: &[u8]) -> Result<Value, PairError>
     ensures value { IfOk result (λ v. view v
         ≡ pair_data Question.Equal a.now b.now
-        (option_map pair_of_difference (strings_difference bytes_peer a.now b.now))) }
+        (option_map pair_of_difference (strings_difference bytes_layer a.now b.now))) }
     ensures shallow { IfOk result (λ v. depth (view v) ≤ 6) }
     ensures whole_numbers { IfOk result (λ v. has_float (view v) ≡ false) }
     ensures accepted { OnOk result
-        (IsOk (reading bytes_peer a.now) × IsOk (reading bytes_peer b.now)) }
+        (IsOk (reading bytes_layer a.now) × IsOk (reading bytes_layer b.now)) }
     ensures error { IfErr result (IsPairError a.now b.now) }
 {
     match first_difference(a, b) {
@@ -360,11 +360,11 @@ pub fn difference_json(alloc: Global, a: &[u8], b: &[u8]) -> Result<Value, PairE
 pub fn unmet_json(alloc: Global, have: &[u8], want: &[u8]) -> Result<Value, PairError>
     ensures value { IfOk result (λ v. view v
         ≡ pair_data Question.Met have.now want.now
-        (option_map pair_of_unmet (strings_unmet bytes_peer have.now want.now))) }
+        (option_map pair_of_unmet (strings_unmet bytes_layer have.now want.now))) }
     ensures shallow { IfOk result (λ v. depth (view v) ≤ 6) }
     ensures whole_numbers { IfOk result (λ v. has_float (view v) ≡ false) }
     ensures accepted { OnOk result
-        (IsOk (reading bytes_peer have.now) × IsOk (reading bytes_peer want.now)) }
+        (IsOk (reading bytes_layer have.now) × IsOk (reading bytes_layer want.now)) }
     ensures error { IfErr result (IsPairError have.now want.now) }
 {
     match first_unmet(have, want) {

@@ -13,7 +13,7 @@ ghost use Rattle.std.specs.Prelude.{
   option_map,
 };
 ghost use Rattle.linkinfo.specs.Strings.{reading};
-ghost use Rattle.linkinfo_data.specs.BytesPeer.{bytes_peer};
+ghost use Rattle.linkinfo_data.specs.BytesLayer.{bytes_layer};
 ghost use Rattle.serde_json.specs.Data.{depth};
 ghost use Rattle.serde_json.specs.View.{view};
 ghost use Rattle.serde_json.specs.Written.{has_float};
@@ -146,7 +146,7 @@ fn answer_json(alloc: Global, question: Question, a: &[u8], b: &[u8]) -> Result<
     ensures shallow { IfOk result (λ v. depth (view v) ≤ 6) }
     ensures whole_numbers { IfOk result (λ v. has_float (view v) ≡ false) }
     ensures accepted { OnOk result
-        (IsOk (reading bytes_peer a.now) × IsOk (reading bytes_peer b.now)) }
+        (IsOk (reading bytes_layer a.now) × IsOk (reading bytes_layer b.now)) }
     ensures error { IfErr result (IsPairError a.now b.now) }
 {
     match question {

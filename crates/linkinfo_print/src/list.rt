@@ -15,7 +15,7 @@ ghost use Rattle.std.specs.Prelude.{
 };
 ghost use Rattle.std.specs.Option.{option_copied};
 ghost use Rattle.nla_frame.specs.Attribute.{masked};
-ghost use Rattle.linkinfo_data.specs.BytesPeer.{bytes_peer};
+ghost use Rattle.linkinfo_data.specs.BytesLayer.{bytes_layer};
 ghost use Rattle.linkinfo.specs.Roles.{role_of};
 ghost use Rattle.linkinfo.specs.Strings.{reading};
 ghost use Rattle.linkinfo.specs.Walks.{attribute_of_item, items_left};
@@ -293,7 +293,7 @@ pub fn list_json(alloc: Global, bytes: &[u8]) -> Result<Value, ListError>
     ensures value { IfOk result (λ v. view v ≡ list_data bytes.now) }
     ensures shallow { IfOk result (λ v. depth (view v) ≤ 5) }
     ensures whole_numbers { IfOk result (λ v. has_float (view v) ≡ false) }
-    ensures accepted { OnOk result (IsOk (reading bytes_peer bytes.now)) }
+    ensures accepted { OnOk result (IsOk (reading bytes_layer bytes.now)) }
     ensures error { IfErr result (IsListError bytes.now) }
 {
     match check_at(bytes) {

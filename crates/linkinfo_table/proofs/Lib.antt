@@ -1,6 +1,7 @@
-pub mod RowAnswers
 mod RowPayloads
-pub mod Writing
 mod Firsts
 pub mod Lasts
+pub mod Layering
 pub mod Measuring
+pub mod RowAnswers
+pub mod Writing

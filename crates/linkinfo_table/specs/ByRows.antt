@@ -25,9 +25,10 @@ module _ {X : Type 0} (f : Family) (other : DefaultNla → X) (attribute : X →
   means a = meaning_in f other (λ n. row_of (rows n)) a
 
   -- what is written may be another function with the same attributes
-  abbrev pub members_written_by_rows : (X → Attribute) → (Attribute → ℕ) → Members X
-  members_written_by_rows emitted headers = record {
+  abbrev pub members_written_by_rows : (X → Attribute) → (Attribute → ℕ) → List Family → Members X
+  members_written_by_rows emitted headers inner = record {
     family = f;
+    inner = inner;
     meaning = means;
     headers = headers;
     alike = alike_in (λ n. row_of (rows n));
@@ -37,14 +38,14 @@ module _ {X : Type 0} (f : Family) (other : DefaultNla → X) (attribute : X →
   }
 
   abbrev pub members_by_rows : (Attribute → ℕ) → Members X
-  members_by_rows headers = members_written_by_rows attribute headers
+  members_by_rows headers = members_written_by_rows attribute headers []
 
   pub written_are_family : (emitted : X → Attribute) → ((x : X) → emitted x ≡ attribute x) →
       ((n : ℕ) → RowOwes attribute n (row_of (rows n))) →
       ((d : DefaultNla) → attribute (other d) ≡ record { kind = d.kind; value = d.value }) →
       (headers : Attribute → ℕ) → ((a : Attribute) → 4 * headers a ≤ length a.value) →
-      IsFamily (members_written_by_rows emitted headers)
-  written_are_family emitted written owes keeps headers quarter = record {
+      (inner : List Family) → IsFamily (members_written_by_rows emitted headers inner)
+  written_are_family emitted written owes keeps headers quarter inner = record {
     alike_is = flat_alike_is f other attribute rows owes keeps;
     quarter = quarter;
     no_memory = flat_no_memory f other attribute rows owes keeps;
@@ -59,7 +60,7 @@ module _ {X : Type 0} (f : Family) (other : DefaultNla → X) (attribute : X →
         (headers : Attribute → ℕ) → ((a : Attribute) → 4 * headers a ≤ length a.value) →
         IsFamily (members_by_rows headers)
     rows_are_family keeps headers quarter =
-        written_are_family attribute (λ _. refl) owes keeps headers quarter
+        written_are_family attribute (λ _. refl) owes keeps headers quarter []
 
     module _ (flat : (n : ℕ) → IsFlat (rows n)) where
       pub rows_name : (s : List ℕ) → EachNames f (values means (nla_items s))

@@ -13,6 +13,7 @@ pub mod FamilyRows
 pub mod FlatLaws
 pub mod Labels
 pub mod Last
+pub mod Layers
 pub mod Levels
 pub mod ListLaws
 pub mod ListPayload
@@ -21,6 +22,7 @@ pub mod LookupLaws
 pub mod Lookups
 pub mod Members
 pub mod Named
+pub mod OneType
 pub mod Opaque
 pub mod PayloadCodec
 pub mod Payloads

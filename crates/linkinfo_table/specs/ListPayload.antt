@@ -39,16 +39,16 @@ module _ {C X : Type 0} (f : Family) (among : List Family) (keeping : DefaultNla
     (headers : C → Attribute → ℕ) (alike : C → Attribute → Attribute → Bool)
     (needs_memory : C → Attribute → Bool) (attribute : X → Attribute) (well : C → X → Type 0) where
   pub list_is_payload :
-      ((c : C) → IsFamily (members_at f meaning headers alike needs_memory attribute well c)) →
+      ((c : C) → IsFamily (members_at f among meaning headers alike needs_memory attribute well c)) →
       ((c : C) (a : Attribute) →
       LookupSays f among keeping attribute meaning a (lookup c (masked a.kind)) (meaning c a)) →
       (c : C) →
       IsPayload (Nested f) (f ∷ among)
-      (list_of (members_at f meaning headers alike needs_memory attribute well c))
+      (list_of (members_at f among meaning headers alike needs_memory attribute well c))
   list_is_payload lawful says c = record {
     shaped = tt;
     codec =
-        list_of_is_codec (members_at f meaning headers alike needs_memory attribute well c)
+        list_of_is_codec (members_at f among meaning headers alike needs_memory attribute well c)
         (lawful c);
     named = λ p e h.
         names_list f among keeping attribute lookup meaning says c p e

@@ -43,6 +43,8 @@ use Rattle.linkinfo_table.specs.SelfList.{
 
 pub record Members (X : Type 0) : Type 1 where
   pub family : Family
+  -- the families of the attributes inside its attributes
+  pub inner : List Family
   pub meaning : Attribute → Result X DecodeError
   pub headers : Attribute → ℕ
   pub alike : Attribute → Attribute → Bool
@@ -51,11 +53,13 @@ pub record Members (X : Type 0) : Type 1 where
   pub well : X → Type 0
 
 -- the members under the context `c`
-abbrev pub members_at : {C X : Type 0} → Family → (C → Attribute → Result X DecodeError) →
-    (C → Attribute → ℕ) → (C → Attribute → Attribute → Bool) → (C → Attribute → Bool) →
-    (X → Attribute) → (C → X → Type 0) → C → Members X
-members_at family meaning headers alike needs_memory attribute well c = record {
+abbrev pub members_at : {C X : Type 0} → Family → List Family →
+    (C → Attribute → Result X DecodeError) → (C → Attribute → ℕ) →
+    (C → Attribute → Attribute → Bool) → (C → Attribute → Bool) → (X → Attribute) →
+    (C → X → Type 0) → C → Members X
+members_at family inner meaning headers alike needs_memory attribute well c = record {
   family = family;
+  inner = inner;
   meaning = meaning c;
   headers = headers c;
   alike = alike c;

@@ -48,7 +48,7 @@ pub record IsTableWritten {F : Type 0} (other : DefaultNla → F) (attribute emi
       meaning_in f other (λ n. row_of (rows n)) a ≡ Err e →
       memory_in (λ n. row_of (rows n)) a ≡ false
   pub laws : (f : Family) →
-      IsFamily (members_written_by_rows f other attribute rows emitted headers)
+      IsFamily (members_written_by_rows f other attribute rows emitted headers inside)
 
 abbrev pub IsTableFamily : {F : Type 0} → (DefaultNla → F) → (F → Attribute) → (ℕ → FamilyRow F) →
     (Attribute → ℕ) → List Family → Type 1
@@ -83,7 +83,7 @@ table_lawful other attribute emitted written rows headers inside typed owes keep
           (typed_other inside (rows (masked a.kind)) (typed (masked a.kind)));
       laws = λ f.
           written_are_family f other attribute rows emitted written owes keeps_other headers
-          quarter;
+          quarter inside;
     }
 
 -- each error of such a family has its name or that of a family inside, in lists and in first

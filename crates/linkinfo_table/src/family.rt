@@ -170,7 +170,8 @@ pub trait LinkFamily: Nla + Sized + Drop {
         (meaning c a) };
 
     ghost lawful: { (c : Self.Context) →
-        IsFamily (members_at FAMILY meaning headers alike needs_memory Self.attribute well c) };
+        IsFamily (members_at FAMILY inside meaning headers alike needs_memory Self.attribute well
+        c) };
 
     ghost error_certain: { (c : Self.Context) (a : Attribute) (e : DecodeError) →
         HoldsNone (lookup c (masked a.kind)) → meaning c a ≡ Err e → needs_memory c a ≡ false };

@@ -13,6 +13,6 @@ pub trait ListedFamily: LinkFamily {
 
 impl<F: LinkFamily> ListedFamily for F {
     ghost members = { λ c.
-        members_at F.LinkFamily.FAMILY F.meaning F.headers F.alike F.needs_memory F.attribute F.well
-        c };
+        members_at F.LinkFamily.FAMILY F.LinkFamily.inside F.meaning F.headers F.alike
+        F.needs_memory F.attribute F.well c };
 }

@@ -7,9 +7,12 @@ mod qos;
 mod vlan;
 // End: written by tables/generate.
 
+mod layer;
 pub mod laws;
 
 // Begin: written by tables/generate from tables/families (types).
 pub use qos::VlanQosMapping;
 pub use vlan::InfoVlan;
 // End: written by tables/generate.
+
+pub use layer::Typed;

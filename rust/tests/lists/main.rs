@@ -1,7 +1,7 @@
 // @generated from crates/linkinfo_tests/src/lib.rt by rust/translate/run.
 
-//! Tests of `linkinfo` and `linkinfo_lines`, by their public calls alone, and a custom peer as a
-//! user of `linkinfo` writes it.
+//! Tests of `linkinfo` and `linkinfo_lines`, by their public calls alone, and a custom peer and a
+//! custom layer as users of `linkinfo` write them.
 
 #![allow(
     unused_imports,
@@ -20,8 +20,10 @@ mod support;
 #[path = "../../examples/linkinfo/linkinfo_lines/mod.rs"]
 mod linkinfo_lines;
 
+mod any_layer;
 mod any_peer;
 
+pub use any_layer::AnyLayer;
 pub use any_peer::AnyPeer;
 
 #[cfg(test)]

@@ -14,11 +14,41 @@ def delete_clone_impls(source):
     for index in range(len(source.kept)):
         if source.is_word(index, "impl") and begins_item(source, index):
             trait, target, body = impl_head(source, index)
-            if trait == "Clone":
+            if trait == "Clone" and not has_condition(source, index, body):
                 source.delete(source.front(index), source.close(body) + 1, "impl Clone")
                 types.add(target)
     source.refresh()
     return types
+
+
+def has_condition(source, index, body):
+    """Whether the impl has a `where`, which no derive can state: it is kept."""
+    return any(source.is_word(at, "where") for at in range(index, body))
+
+
+def rewrite_conditional(source):
+    """Has the kept impls clone each field, as a derived one does."""
+    for index in range(len(source.kept)):
+        if source.is_word(index, "impl") and begins_item(source, index):
+            trait, _, body = impl_head(source, index)
+            if trait == "Clone" and has_condition(source, index, body):
+                infallible(source, body, source.close(body))
+    source.refresh()
+
+
+def infallible(source, start, end):
+    """Deletes what makes the result of a body a `Result`: the type around, `Ok` and `?`."""
+    for at in range(start, end):
+        if source.reads(at, "Result", "<"):
+            comma = source.end_of(at, ("AllocError",)) - 1
+            source.delete(at, at + 2, "Result of a clone")
+            source.delete(comma, comma + 3, "Result of a clone")
+        elif source.reads(at, "Ok", "("):
+            closed = source.close(at + 1)
+            source.delete(at, at + 2, "Result of a clone")
+            source.delete(closed, closed + 1, "Result of a clone")
+        elif source.at(at) == "?":
+            source.delete(at, at + 1, "Result of a clone")
 
 
 def derived_type(source, end):
@@ -60,3 +90,4 @@ def derive_clones(source, types):
 
 def rewrite_clones(source):
     derive_clones(source, delete_clone_impls(source))
+    rewrite_conditional(source)

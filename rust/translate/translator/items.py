@@ -52,7 +52,8 @@ def impl_head(source, index):
     if "for" not in words:
         return None, None, body
     middle = words.index("for")
-    return outer_name(words[:middle]), outer_name(words[middle + 1 :]), body
+    end = words.index("where") if "where" in words else len(words)
+    return outer_name(words[:middle]), outer_name(words[middle + 1 : end]), body
 
 
 def outer_name(words):

@@ -12,6 +12,16 @@ from .items import free_words, function_parts
 DOES = ("?", "!", "mut", ".", "=", "|", "{")
 
 
+def after_angles(source, index):
+    """The index after the arguments of types whose `<` is at the index."""
+    depth = 0
+    while True:
+        depth += (source.at(index) == "<") - (source.at(index) == ">")
+        index += 1
+        if depth == 0:
+            return index
+
+
 def call_at(source, index):
     """Of a statement that is a call by a path: the path and the index after its `;`, or None."""
     path, at = [], index
@@ -22,7 +32,7 @@ def call_at(source, index):
             break
         at += 2
         if source.at(at) == "<":
-            at = source.end_of(at, (">",)) + 1
+            at = after_angles(source, at)
     if not path or source.at(at) != "(" or source.at(source.close(at) + 1) != ";":
         return None
     return path, source.close(at) + 2

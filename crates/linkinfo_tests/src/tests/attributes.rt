@@ -38,7 +38,7 @@ fn data_is_written(rt: HostRuntime) {
     let peer = InfoVeth::Peer(copied(&rt, alloc, &[0xaa, 0xbb]));
     let veth = InfoData::Veth(peer);
     assert_written(&rt, alloc, veth, "0c000200 06000100 aabb0000");
-    let bit = InfoDataOf::Veth(InfoVethOf::Peer(BitPeer(true)));
+    let bit = InfoDataOf::<BitPeer>::Veth(InfoVethOf::Peer(BitPeer(true)));
     assert_written(&rt, alloc, bit, "0c000200 05000100 01000000");
     // Data without a family.
     let other = InfoData::Other(copied(&rt, alloc, &[7]));

@@ -1,8 +1,11 @@
-//! A custom peer: links with it parsed, validated, compared and written.
+//! A custom peer, and a custom layer: links with them parsed, validated, compared and written.
 
 use super::assertions::{assert_emitted, assert_equal, assert_parses, bytes_of, nlas};
-use crate::AnyPeer;
-use linkinfo::{InfoDataOf, InfoKind, InfoVethOf, LinkInfoOf, VecLinkInfoOf, check_of, same_of};
+use crate::{AnyLayer, AnyPeer};
+use linkinfo::{
+    Cause, DecodeError, Family, InfoDataOf, InfoKind, InfoVethOf, InfoXfrm, LinkInfoOf,
+    VecLinkInfoOf, check, check_of, same_of,
+};
 use std::alloc::Global;
 use std::process::Abort;
 
@@ -32,4 +35,45 @@ fn custom_peer(rt: HostRuntime) {
     assert_accepted(&rt, alloc, &none, &list);
     assert_equal(&rt, &"both", &same_of::<AnyPeer>(&two, &none), &Ok(true));
     assert_emitted(&rt, alloc, list.as_slice(), &none);
+}
+
+/// A vlan link whose data is an attribute of type 2 with four bytes, with flag bits too, and with one
+/// byte.
+const VLANS: [&str; 3] = [
+    "09000100 766c616e 00000000 0c000200 08000200 05000000",
+    "09000100 766c616e 00000000 0c000200 08000280 05000000",
+    "09000100 766c616e 00000000 09000200 05000200 05000000",
+];
+
+#[test]
+fn custom_layer(rt: HostRuntime) {
+    let alloc = rt.alloc();
+    let data = InfoDataOf::Vlan(nlas(&rt, alloc, [InfoXfrm::IfId(5)]));
+    let items = [LinkInfoOf::Kind(InfoKind::Vlan), LinkInfoOf::Data(data)];
+    let list: VecLinkInfoOf<AnyLayer> = VecLinkInfoOf(nlas(&rt, alloc, items));
+    let [plain, flagged, short] = VLANS;
+    let plain = bytes_of(&rt, alloc, plain);
+    let flagged = bytes_of(&rt, alloc, flagged);
+    let short = bytes_of(&rt, alloc, short);
+    assert_parses(
+        &rt,
+        &"flagged",
+        VecLinkInfoOf::<AnyLayer>::parse(alloc, &flagged),
+        &list,
+    );
+    assert_equal(
+        &rt,
+        &"both",
+        &same_of::<AnyLayer>(&plain, &flagged),
+        &Ok(true),
+    );
+    assert_emitted(&rt, alloc, list.as_slice(), &plain);
+    // An error names the family that the layer supplies; opaque families accept every payload.
+    let error = DecodeError {
+        family: Family::Xfrm,
+        kind: 2,
+        cause: Cause::Length,
+    };
+    assert_equal(&rt, &"short", &check_of::<AnyLayer>(&short), &Err(error));
+    assert_equal(&rt, &"opaque", &check(&short), &Ok(()));
 }

@@ -5,18 +5,18 @@
 use crate::layers::data::ask::Ask;
 use crate::layers::data::devices::DeviceFamily;
 use crate::layers::data::info_data::InfoDataOf;
+use crate::layers::data::layer::DataLayer;
 use crate::layers::data::lower::LowerFamily;
 use crate::layers::data::payload_family::PayloadFamily;
 use crate::layers::data::peers::PeeredFamily;
 use crate::layers::data::tunnels::TunnelFamily;
-use crate::layers::nla_frame::{Bytes, DecodeError, ExactEq, Family, HeaderCount};
+use crate::layers::nla_frame::{DecodeError, ExactEq, Family, HeaderCount};
 use crate::layers::numbers::KindTag;
-use crate::layers::table::LinkPeer;
 
 /// The family of the attributes in `IFLA_INFO_DATA`, which the kind of the link chooses.
 #[derive(Clone, Copy, Debug, PartialEq, Eq, Hash, PartialOrd, Ord)]
 pub enum DataFamily {
-    /// An opaque family (`layers::table::lower`), whose attributes are kept verbatim.
+    /// A family that the layer supplies.
     Lower(LowerFamily),
     /// A family of [`layers::devices`].
     ///
@@ -84,15 +84,9 @@ pub fn family_of(tag: KindTag) -> DataFamily {
     }
 }
 
-impl<P: LinkPeer> PayloadFamily<InfoDataOf<P>> for DataFamily {
+impl<P: DataLayer> PayloadFamily<InfoDataOf<P>> for DataFamily {
     fn listing(self) -> Option<Family> {
-        match self {
-            DataFamily::Lower(family) => PayloadFamily::<InfoDataOf<P>>::listing(family),
-            DataFamily::Device(family) => PayloadFamily::<InfoDataOf<P>>::listing(family),
-            DataFamily::Tunnel(family) => PayloadFamily::<InfoDataOf<P>>::listing(family),
-            DataFamily::Peered(family) => PayloadFamily::<InfoDataOf<P>>::listing(family),
-            DataFamily::Raw => None,
-        }
+        P::data_listing(self)
     }
 
     fn nested(self) -> Option<(u16, Self)> {
@@ -104,31 +98,11 @@ impl<P: LinkPeer> PayloadFamily<InfoDataOf<P>> for DataFamily {
     }
 
     fn read(self, payload: &[u8], count: &mut HeaderCount) -> Result<InfoDataOf<P>, DecodeError> {
-        match self {
-            DataFamily::Lower(family) => family.read(payload, count),
-            DataFamily::Device(family) => family.read(payload, count),
-            DataFamily::Tunnel(family) => family.read(payload, count),
-            DataFamily::Peered(family) => family.read(payload, count),
-            DataFamily::Raw => Ok(InfoDataOf::Other(Bytes::copy_of(payload)?)),
-        }
+        P::read_data(self, payload, count)
     }
 
     #[inline(always)]
     fn ask<Q: Ask>(self, question: Q, count: &mut HeaderCount, buffer: &mut [u8]) -> Q::Answer {
-        match self {
-            DataFamily::Lower(family) => {
-                PayloadFamily::<InfoDataOf<P>>::ask(family, question, count, buffer)
-            }
-            DataFamily::Device(family) => {
-                PayloadFamily::<InfoDataOf<P>>::ask(family, question, count, buffer)
-            }
-            DataFamily::Tunnel(family) => {
-                PayloadFamily::<InfoDataOf<P>>::ask(family, question, count, buffer)
-            }
-            DataFamily::Peered(family) => {
-                PayloadFamily::<InfoDataOf<P>>::ask(family, question, count, buffer)
-            }
-            DataFamily::Raw => question.of_bytes(count, buffer),
-        }
+        P::ask_data(self, question, count, buffer)
     }
 }

@@ -14,7 +14,7 @@ use crate::layers::devices::{
 // End: written by tables/generate.
 use crate::layers::devices::{LIST_TYPE, MOST_LISTS};
 use crate::layers::nla_frame::{DecodeError, ExactEq, Family, HeaderCount};
-use crate::layers::table::LinkPeer;
+use crate::layers::table::LinkLayer;
 
 /// The families of data of ipvlan, ipvtap, macvlan, macvtap, vrf, ipoib, xfrm, macsec and rmnet
 /// links.
@@ -65,7 +65,7 @@ macro_rules! of_device {
     };
 }
 
-impl<P: LinkPeer> PayloadFamily<InfoDataOf<P>> for DeviceFamily {
+impl<P: LinkLayer> PayloadFamily<InfoDataOf<P>> for DeviceFamily {
     fn listing(self) -> Option<Family> {
         match self {
             // Begin: written by tables/generate from tables/kinds (listing).

@@ -1,11 +1,9 @@
 // @generated from crates/linkinfo_data/src/families.rt by rust/translate/run.
 
-//! Specifications of the attributes of each family without a peer, a line a family.
+//! Specifications of the attributes of each family that depends on no layer, a line a family.
 
-// End: written by tables/generate.
-
-/// The specification of the attributes of each family without a peer. For `ipip`, `ip6tnl` and
-/// `sit` links it depends on the tag of the kind.
+/// The specification of the attributes of each family that depends on no layer. For `ipip`,
+/// `ip6tnl` and `sit` links it depends on the tag of the kind.
 #[doc(hidden)]
 pub trait PlainFamilies {
     // End: written by tables/generate.

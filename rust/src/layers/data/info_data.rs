@@ -3,7 +3,8 @@
 //! The data of a link: `IFLA_INFO_DATA`, include/uapi/linux/if_link.h.
 
 use crate::layers::data::data::family_of;
-use crate::layers::data::encode::{Encode, FitLen, Write};
+use crate::layers::data::encode::Encode;
+use crate::layers::data::layer::DataLayer;
 use crate::layers::data::payload_family::PayloadFamily;
 // Begin: written by tables/generate from tables/kinds (device).
 use crate::layers::devices::{
@@ -14,13 +15,10 @@ use crate::layers::devices::{
 use crate::layers::numbers::{IFLA_INFO_DATA, InfoKind};
 // Begin: written by tables/generate from tables/kinds (peered).
 use crate::layers::peers::{
-    InfoBatAdv, InfoNetkitOf, InfoPfcp, InfoTun, InfoVethOf, InfoVxcanOf, InfoWireguard, InfoWwan,
+    InfoBatAdv, InfoNetkitOf, InfoPfcp, InfoVethOf, InfoVxcanOf, InfoWireguard, InfoWwan,
 };
 // End: written by tables/generate.
-use crate::layers::table::LinkPeer;
-// Begin: written by tables/generate from tables/kinds (lower).
-use crate::layers::table::lower::{InfoBond, InfoBridge, InfoCan, InfoDsa, InfoHsr, InfoVlan};
-// End: written by tables/generate.
+use crate::layers::table::LinkLayer;
 // Begin: written by tables/generate from tables/kinds (tunnel).
 use crate::layers::tunnels::{
     InfoAmt, InfoBareUdp, InfoGeneve, InfoGre, InfoGre6, InfoGtp, InfoIpTunnel, InfoVti, InfoVxlan,
@@ -29,22 +27,25 @@ use crate::layers::tunnels::{
 use crate::layers::nla_frame::{Bytes, DecodeError, ExactEq, HeaderCount, Nla, Nlas};
 
 /// The data of a link (`IFLA_INFO_DATA`): the attributes of its kind's family, or bytes if the kind
-/// has no family. Peers have the type `P`.
+/// has no family. `P` is the layer that supplies the type of peers, and the families of some kinds:
+/// at a [`LinkPeer`] these families are opaque.
+///
+/// [`LinkPeer`]: crate::layers::table::LinkPeer
 #[derive(Debug, PartialEq, Eq, Hash, PartialOrd, Ord, Clone)]
-pub enum InfoDataOf<P> {
+pub enum InfoDataOf<P: LinkLayer> {
     // Begin: written by tables/generate from tables/kinds (variants).
-    /// Attributes of `bridge` links (`IFLA_BR_*`), kept verbatim.
-    Bridge(Nlas<InfoBridge>),
-    /// Attributes of `tun` links (`IFLA_TUN_*`), kept verbatim.
-    Tun(Nlas<InfoTun>),
-    /// Attributes of `vlan` links (`IFLA_VLAN_*`), kept verbatim.
-    Vlan(Nlas<InfoVlan>),
+    /// Attributes of `bridge` links (`IFLA_BR_*`), which the layer supplies.
+    Bridge(Nlas<P::Bridge>),
+    /// Attributes of `tun` links (`IFLA_TUN_*`), which the layer supplies.
+    Tun(Nlas<P::Tun>),
+    /// Attributes of `vlan` links (`IFLA_VLAN_*`), which the layer supplies.
+    Vlan(Nlas<P::Vlan>),
     /// The attribute of `veth` links (`VETH_INFO_*`): the first one of their data.
-    Veth(InfoVethOf<P>),
+    Veth(InfoVethOf<P::Peer>),
     /// Attributes of `vxlan` links (`IFLA_VXLAN_*`).
     Vxlan(Nlas<InfoVxlan>),
-    /// Attributes of `bond` links (`IFLA_BOND_*`), kept verbatim.
-    Bond(Nlas<InfoBond>),
+    /// Attributes of `bond` links (`IFLA_BOND_*`), which the layer supplies.
+    Bond(Nlas<P::Bond>),
     /// Attributes of `ipvlan` links (`IFLA_IPVLAN_*`).
     IpVlan(Nlas<InfoIpVlan>),
     /// Attributes of `ipvtap` links (`IFLA_IPVLAN_*`).
@@ -77,14 +78,14 @@ pub enum InfoDataOf<P> {
     Xfrm(Nlas<InfoXfrm>),
     /// Attributes of `macsec` links (`IFLA_MACSEC_*`).
     MacSec(Nlas<InfoMacSec>),
-    /// Attributes of `hsr` links (`IFLA_HSR_*`), kept verbatim.
-    Hsr(Nlas<InfoHsr>),
+    /// Attributes of `hsr` links (`IFLA_HSR_*`), which the layer supplies.
+    Hsr(Nlas<P::Hsr>),
     /// Attributes of `geneve` links (`IFLA_GENEVE_*`).
     Geneve(Nlas<InfoGeneve>),
     /// Attributes of `netkit` links (`IFLA_NETKIT_*`).
-    Netkit(Nlas<InfoNetkitOf<P>>),
+    Netkit(Nlas<InfoNetkitOf<P::Peer>>),
     /// The attribute of `vxcan` links (`VXCAN_INFO_*`): the first one of their data.
-    Vxcan(InfoVxcanOf<P>),
+    Vxcan(InfoVxcanOf<P::Peer>),
     /// Attributes of `amt` links (`IFLA_AMT_*`).
     Amt(Nlas<InfoAmt>),
     /// Attributes of `batadv` links (`IFLA_BATADV_*`).
@@ -93,10 +94,10 @@ pub enum InfoDataOf<P> {
     BareUdp(Nlas<InfoBareUdp>),
     /// Attributes of `wwan` links (`IFLA_WWAN_*`).
     Wwan(Nlas<InfoWwan>),
-    /// Attributes of `can` links (`IFLA_CAN_*`), kept verbatim.
-    Can(Nlas<InfoCan>),
-    /// Attributes of `dsa` links (`IFLA_DSA_*`), kept verbatim.
-    Dsa(Nlas<InfoDsa>),
+    /// Attributes of `can` links (`IFLA_CAN_*`), which the layer supplies.
+    Can(Nlas<P::Can>),
+    /// Attributes of `dsa` links (`IFLA_DSA_*`), which the layer supplies.
+    Dsa(Nlas<P::Dsa>),
     /// Attributes of `erspan` links (`IFLA_GRE_*`).
     ErSpan(Nlas<InfoGre>),
     /// Attributes of `ip6erspan` links (`IFLA_GRE_*`).
@@ -110,10 +111,10 @@ pub enum InfoDataOf<P> {
     Other(Bytes),
 }
 
-/// The data of a link (`IFLA_INFO_DATA`), with peers kept as bytes.
+/// The data of a link (`IFLA_INFO_DATA`), with peers kept as bytes, and opaque families.
 pub type InfoData = InfoDataOf<Bytes>;
 
-impl<P: LinkPeer> InfoDataOf<P> {
+impl<P: DataLayer> InfoDataOf<P> {
     /// Parses the payload of `IFLA_INFO_DATA` of a link of this kind.
     ///
     /// The result holds the attributes of the kind's family, or the bytes if the kind has none.
@@ -129,9 +130,11 @@ impl<P: LinkPeer> InfoDataOf<P> {
         let mut count = HeaderCount::new();
         family_of(kind.tag()).read(payload, &mut count)
     }
+}
 
+impl<P: LinkLayer> InfoDataOf<P> {
     /// Encodes the data: the encodings of the attributes, one after another, or the bytes.
-    fn encode<E: Encode>(&self, encode: E, buffer: &mut [u8]) -> E::Answer {
+    pub(crate) fn encode<E: Encode>(&self, encode: E, buffer: &mut [u8]) -> E::Answer {
         match self {
             // Begin: written by tables/generate from tables/kinds (encoding).
             InfoDataOf::Bridge(list) => encode.list(list, buffer),
@@ -175,9 +178,10 @@ impl<P: LinkPeer> InfoDataOf<P> {
         }
     }
 }
+
 /// Written as an attribute of type 2 (`IFLA_INFO_DATA`). The payload is the encodings of the
 /// attributes, one after another.
-impl<P: LinkPeer> Nla for InfoDataOf<P> {
+impl<P: DataLayer> Nla for InfoDataOf<P> {
     #[inline]
     fn value_len(&self) -> usize {
         self.fit_len().unwrap_or(0)
@@ -190,7 +194,7 @@ impl<P: LinkPeer> Nla for InfoDataOf<P> {
 
     #[inline]
     fn emit_payload(&self, buffer: &mut [u8]) -> usize {
-        self.encode(Write, buffer)
+        P::write_data(self, buffer)
     }
 
     #[inline]
@@ -200,8 +204,8 @@ impl<P: LinkPeer> Nla for InfoDataOf<P> {
 
     #[inline]
     fn fit_len(&self) -> Option<usize> {
-        self.encode(FitLen, &mut [])
+        P::data_fit_len(self)
     }
 }
 
-impl<P: ExactEq> ExactEq for InfoDataOf<P> {}
+impl<P: LinkLayer + PartialEq> ExactEq for InfoDataOf<P> {}

@@ -6,28 +6,24 @@ use crate::layers::data::ask::Ask;
 use crate::layers::data::calls::{ask, read};
 use crate::layers::data::info_data::InfoDataOf;
 use crate::layers::data::payload_family::PayloadFamily;
-use crate::layers::table::LinkPeer;
-// Begin: written by tables/generate from tables/kinds (types).
-use crate::layers::table::lower::{InfoBond, InfoBridge, InfoCan, InfoDsa, InfoHsr, InfoVlan};
-// End: written by tables/generate.
 use crate::layers::nla_frame::{DecodeError, ExactEq, Family, HeaderCount};
+use crate::layers::table::{LinkFamily, LinkLayer};
 
-/// The families of data of bridge, vlan, bond, hsr, can and dsa links, whose attributes are kept
-/// verbatim.
+/// The families of data of bridge, vlan, bond, hsr, can and dsa links, which the layer supplies.
 #[derive(Clone, Copy, Debug, PartialEq, Eq, Hash, PartialOrd, Ord)]
 pub enum LowerFamily {
     // Begin: written by tables/generate from tables/kinds (variants).
-    /// Attributes of `bridge` links (`IFLA_BR_*`), kept verbatim.
+    /// Attributes of `bridge` links (`IFLA_BR_*`), which the layer supplies.
     Bridge,
-    /// Attributes of `vlan` links (`IFLA_VLAN_*`), kept verbatim.
+    /// Attributes of `vlan` links (`IFLA_VLAN_*`), which the layer supplies.
     Vlan,
-    /// Attributes of `bond` links (`IFLA_BOND_*`), kept verbatim.
+    /// Attributes of `bond` links (`IFLA_BOND_*`), which the layer supplies.
     Bond,
-    /// Attributes of `hsr` links (`IFLA_HSR_*`), kept verbatim.
+    /// Attributes of `hsr` links (`IFLA_HSR_*`), which the layer supplies.
     Hsr,
-    /// Attributes of `can` links (`IFLA_CAN_*`), kept verbatim.
+    /// Attributes of `can` links (`IFLA_CAN_*`), which the layer supplies.
     Can,
-    /// Attributes of `dsa` links (`IFLA_DSA_*`), kept verbatim.
+    /// Attributes of `dsa` links (`IFLA_DSA_*`), which the layer supplies.
     Dsa,
     // End: written by tables/generate.
 }
@@ -39,27 +35,27 @@ macro_rules! of_lower {
     ($family:expr, $call:ident $given:tt) => {
         match $family {
             // Begin: written by tables/generate from tables/kinds (calls).
-            LowerFamily::Bridge => $call!(list(InfoDataOf::Bridge, InfoBridge, ()) $given),
-            LowerFamily::Vlan => $call!(list(InfoDataOf::Vlan, InfoVlan, ()) $given),
-            LowerFamily::Bond => $call!(list(InfoDataOf::Bond, InfoBond, ()) $given),
-            LowerFamily::Hsr => $call!(list(InfoDataOf::Hsr, InfoHsr, ()) $given),
-            LowerFamily::Can => $call!(list(InfoDataOf::Can, InfoCan, ()) $given),
-            LowerFamily::Dsa => $call!(list(InfoDataOf::Dsa, InfoDsa, ()) $given),
+            LowerFamily::Bridge => $call!(list(InfoDataOf::Bridge, P::Bridge, ()) $given),
+            LowerFamily::Vlan => $call!(list(InfoDataOf::Vlan, P::Vlan, ()) $given),
+            LowerFamily::Bond => $call!(list(InfoDataOf::Bond, P::Bond, ()) $given),
+            LowerFamily::Hsr => $call!(list(InfoDataOf::Hsr, P::Hsr, ()) $given),
+            LowerFamily::Can => $call!(list(InfoDataOf::Can, P::Can, ()) $given),
+            LowerFamily::Dsa => $call!(list(InfoDataOf::Dsa, P::Dsa, ()) $given),
             // End: written by tables/generate.
         }
     };
 }
 
-impl<P: LinkPeer> PayloadFamily<InfoDataOf<P>> for LowerFamily {
+impl<P: LinkLayer> PayloadFamily<InfoDataOf<P>> for LowerFamily {
     fn listing(self) -> Option<Family> {
         match self {
             // Begin: written by tables/generate from tables/kinds (listing).
-            LowerFamily::Bridge => Some(Family::Bridge),
-            LowerFamily::Vlan => Some(Family::Vlan),
-            LowerFamily::Bond => Some(Family::Bond),
-            LowerFamily::Hsr => Some(Family::Hsr),
-            LowerFamily::Can => Some(Family::Can),
-            LowerFamily::Dsa => Some(Family::Dsa),
+            LowerFamily::Bridge => Some(<P::Bridge as LinkFamily>::FAMILY),
+            LowerFamily::Vlan => Some(<P::Vlan as LinkFamily>::FAMILY),
+            LowerFamily::Bond => Some(<P::Bond as LinkFamily>::FAMILY),
+            LowerFamily::Hsr => Some(<P::Hsr as LinkFamily>::FAMILY),
+            LowerFamily::Can => Some(<P::Can as LinkFamily>::FAMILY),
+            LowerFamily::Dsa => Some(<P::Dsa as LinkFamily>::FAMILY),
             // End: written by tables/generate.
         }
     }

@@ -8,18 +8,18 @@ use crate::layers::data::info_data::InfoDataOf;
 use crate::layers::data::payload_family::PayloadFamily;
 // Begin: written by tables/generate from tables/kinds (types).
 use crate::layers::peers::{
-    InfoBatAdv, InfoNetkitOf, InfoPfcp, InfoTun, InfoVethOf, InfoVxcanOf, InfoWireguard, InfoWwan,
+    InfoBatAdv, InfoNetkitOf, InfoPfcp, InfoVethOf, InfoVxcanOf, InfoWireguard, InfoWwan,
 };
 // End: written by tables/generate.
 use crate::layers::nla_frame::{DecodeError, ExactEq, Family, HeaderCount};
-use crate::layers::table::LinkPeer;
+use crate::layers::table::{LinkFamily, LinkLayer};
 
 /// The families of data of links with a peer (veth, vxcan and netkit), and of tun, wireguard,
 /// batadv, wwan and pfcp links.
 #[derive(Clone, Copy, Debug, PartialEq, Eq, Hash, PartialOrd, Ord)]
 pub enum PeeredFamily {
     // Begin: written by tables/generate from tables/kinds (variants).
-    /// Attributes of `tun` links (`IFLA_TUN_*`), kept verbatim.
+    /// Attributes of `tun` links (`IFLA_TUN_*`), which the layer supplies.
     Tun,
     /// The attribute of `veth` links (`VETH_INFO_*`): the first one of their data.
     Veth,
@@ -45,13 +45,17 @@ macro_rules! of_peered {
     ($family:expr, $call:ident $given:tt) => {
         match $family {
             // Begin: written by tables/generate from tables/kinds (calls).
-            PeeredFamily::Tun => $call!(list(InfoDataOf::Tun, InfoTun, ()) $given),
-            PeeredFamily::Veth => $call!(first(InfoDataOf::Veth, InfoVethOf<P>, ()) $given),
+            PeeredFamily::Tun => $call!(list(InfoDataOf::Tun, P::Tun, ()) $given),
+            PeeredFamily::Veth => $call!(first(InfoDataOf::Veth, InfoVethOf<P::Peer>, ()) $given),
             PeeredFamily::Wireguard => {
                 $call!(list(InfoDataOf::Wireguard, InfoWireguard, ()) $given)
             }
-            PeeredFamily::Netkit => $call!(list(InfoDataOf::Netkit, InfoNetkitOf<P>, ()) $given),
-            PeeredFamily::Vxcan => $call!(first(InfoDataOf::Vxcan, InfoVxcanOf<P>, ()) $given),
+            PeeredFamily::Netkit => {
+                $call!(list(InfoDataOf::Netkit, InfoNetkitOf<P::Peer>, ()) $given)
+            }
+            PeeredFamily::Vxcan => {
+                $call!(first(InfoDataOf::Vxcan, InfoVxcanOf<P::Peer>, ()) $given)
+            }
             PeeredFamily::BatAdv => $call!(list(InfoDataOf::BatAdv, InfoBatAdv, ()) $given),
             PeeredFamily::Wwan => $call!(list(InfoDataOf::Wwan, InfoWwan, ()) $given),
             PeeredFamily::Pfcp => $call!(list(InfoDataOf::Pfcp, InfoPfcp, ()) $given),
@@ -60,11 +64,11 @@ macro_rules! of_peered {
     };
 }
 
-impl<P: LinkPeer> PayloadFamily<InfoDataOf<P>> for PeeredFamily {
+impl<P: LinkLayer> PayloadFamily<InfoDataOf<P>> for PeeredFamily {
     fn listing(self) -> Option<Family> {
         match self {
             // Begin: written by tables/generate from tables/kinds (listing).
-            PeeredFamily::Tun => Some(Family::Tun),
+            PeeredFamily::Tun => Some(<P::Tun as LinkFamily>::FAMILY),
             PeeredFamily::Veth => None,
             PeeredFamily::Wireguard => Some(Family::Wireguard),
             PeeredFamily::Netkit => Some(Family::Netkit),

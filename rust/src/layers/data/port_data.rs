@@ -3,21 +3,21 @@
 //! The data of a port: `IFLA_INFO_SLAVE_DATA`, include/uapi/linux/if_link.h.
 
 use crate::layers::data::ask::Ask;
-use crate::layers::data::calls::{ask, read};
-use crate::layers::data::encode::{Encode, FitLen, Write};
+use crate::layers::data::encode::Encode;
+use crate::layers::data::layer::DataLayer;
 use crate::layers::data::payload_family::PayloadFamily;
 use crate::layers::devices::InfoVrfPort;
 use crate::layers::nla_frame::{Bytes, DecodeError, ExactEq, Family, HeaderCount, Nla, Nlas};
 use crate::layers::numbers::{IFLA_INFO_SLAVE_DATA, InfoPortKind, PortTag};
 use crate::layers::peers::InfoTeamPort;
-use crate::layers::table::lower::{InfoBondPort, InfoBridgePort};
+use crate::layers::table::LinkLayer;
 
 /// The family of the attributes in `IFLA_INFO_SLAVE_DATA`, which the kind of the port chooses.
 #[derive(Clone, Copy, Debug, PartialEq, Eq, Hash, PartialOrd, Ord)]
 pub enum PortFamily {
-    /// Attributes of ports of a `bond` link (`IFLA_BOND_SLAVE_*`), kept verbatim.
+    /// Attributes of ports of a `bond` link (`IFLA_BOND_SLAVE_*`), which the layer supplies.
     Bond,
-    /// Attributes of ports of a `bridge` link (`IFLA_BRPORT_*`), kept verbatim.
+    /// Attributes of ports of a `bridge` link (`IFLA_BRPORT_*`), which the layer supplies.
     Bridge,
     /// Attributes of ports of a `vrf` link (`IFLA_VRF_PORT_*`).
     Vrf,
@@ -42,13 +42,16 @@ pub fn port_family_of(tag: PortTag) -> PortFamily {
 }
 
 /// The data of a port (`IFLA_INFO_SLAVE_DATA`): the attributes of its port kind's family, or bytes
-/// if the port kind has no family.
+/// if the port kind has no family. `P` is the layer that supplies the families of ports of bonds
+/// and of bridges: at a [`LinkPeer`] these are opaque.
+///
+/// [`LinkPeer`]: crate::layers::table::LinkPeer
 #[derive(Debug, PartialEq, Eq, Hash, PartialOrd, Ord, Clone)]
-pub enum InfoPortData {
-    /// Attributes of a port of a `bond` link (`IFLA_BOND_SLAVE_*`), kept verbatim.
-    BondPort(Nlas<InfoBondPort>),
-    /// Attributes of a port of a `bridge` link (`IFLA_BRPORT_*`), kept verbatim.
-    BridgePort(Nlas<InfoBridgePort>),
+pub enum InfoPortDataOf<P: LinkLayer> {
+    /// Attributes of a port of a `bond` link (`IFLA_BOND_SLAVE_*`), which the layer supplies.
+    BondPort(Nlas<P::BondPort>),
+    /// Attributes of a port of a `bridge` link (`IFLA_BRPORT_*`), which the layer supplies.
+    BridgePort(Nlas<P::BridgePort>),
     /// Attributes of a port of a `vrf` link (`IFLA_VRF_PORT_*`).
     VrfPort(Nlas<InfoVrfPort>),
     /// Attributes of a port of a `team` link, kept verbatim.
@@ -57,45 +60,33 @@ pub enum InfoPortData {
     Other(Bytes),
 }
 
-/// Matches a family of ports, and expands `$call!`, of `calls`, for its data.
-macro_rules! of_port {
-    ($family:expr, $call:ident $given:tt) => {
-        match $family {
-            PortFamily::Bond => $call!(list(InfoPortData::BondPort, InfoBondPort, ()) $given),
-            PortFamily::Bridge => $call!(list(InfoPortData::BridgePort, InfoBridgePort, ()) $given),
-            PortFamily::Vrf => $call!(list(InfoPortData::VrfPort, InfoVrfPort, ()) $given),
-            PortFamily::Team => $call!(list(InfoPortData::TeamPort, InfoTeamPort, ()) $given),
-            PortFamily::Raw => $call!(bytes(InfoPortData::Other) $given),
-        }
-    };
-}
+/// The data of a port (`IFLA_INFO_SLAVE_DATA`), with opaque families.
+pub type InfoPortData = InfoPortDataOf<Bytes>;
 
-impl PayloadFamily<InfoPortData> for PortFamily {
+impl<P: DataLayer> PayloadFamily<InfoPortDataOf<P>> for PortFamily {
     fn listing(self) -> Option<Family> {
-        match self {
-            PortFamily::Bond => Some(Family::BondPort),
-            PortFamily::Bridge => Some(Family::BridgePort),
-            PortFamily::Vrf => Some(Family::Vrf),
-            PortFamily::Team => Some(Family::TeamPort),
-            PortFamily::Raw => None,
-        }
+        P::port_data_listing(self)
     }
 
     fn nested(self) -> Option<(u16, Self)> {
         None
     }
 
-    fn read(self, payload: &[u8], count: &mut HeaderCount) -> Result<InfoPortData, DecodeError> {
-        Ok(of_port!(self, read(payload, count)))
+    fn read(
+        self,
+        payload: &[u8],
+        count: &mut HeaderCount,
+    ) -> Result<InfoPortDataOf<P>, DecodeError> {
+        P::read_port_data(self, payload, count)
     }
 
     #[inline(always)]
     fn ask<Q: Ask>(self, question: Q, count: &mut HeaderCount, buffer: &mut [u8]) -> Q::Answer {
-        of_port!(self, ask(question, count, buffer))
+        P::ask_port_data(self, question, count, buffer)
     }
 }
 
-impl InfoPortData {
+impl<P: DataLayer> InfoPortDataOf<P> {
     /// Parses the payload of `IFLA_INFO_SLAVE_DATA` of a port of this kind.
     ///
     /// The result holds the attributes of the port kind's family, or the bytes if the port kind has
@@ -109,26 +100,28 @@ impl InfoPortData {
     pub fn parse_with_param(
         payload: &[u8],
         kind: &InfoPortKind,
-    ) -> Result<InfoPortData, DecodeError> {
+    ) -> Result<InfoPortDataOf<P>, DecodeError> {
         let mut count = HeaderCount::new();
         port_family_of(kind.tag()).read(payload, &mut count)
     }
+}
 
+impl<P: LinkLayer> InfoPortDataOf<P> {
     /// Encodes the data: the encodings of the attributes, one after another, or the bytes.
-    fn encode<E: Encode>(&self, encode: E, buffer: &mut [u8]) -> E::Answer {
+    pub(crate) fn encode<E: Encode>(&self, encode: E, buffer: &mut [u8]) -> E::Answer {
         match self {
-            InfoPortData::BondPort(list) => encode.list(list, buffer),
-            InfoPortData::BridgePort(list) => encode.list(list, buffer),
-            InfoPortData::VrfPort(list) => encode.list(list, buffer),
-            InfoPortData::TeamPort(list) => encode.list(list, buffer),
-            InfoPortData::Other(bytes) => encode.bytes(bytes.as_slice(), buffer),
+            InfoPortDataOf::BondPort(list) => encode.list(list, buffer),
+            InfoPortDataOf::BridgePort(list) => encode.list(list, buffer),
+            InfoPortDataOf::VrfPort(list) => encode.list(list, buffer),
+            InfoPortDataOf::TeamPort(list) => encode.list(list, buffer),
+            InfoPortDataOf::Other(bytes) => encode.bytes(bytes.as_slice(), buffer),
         }
     }
 }
 
 /// Written as an attribute of type 5 (`IFLA_INFO_SLAVE_DATA`). The payload is the encodings of the
 /// attributes, one after another.
-impl Nla for InfoPortData {
+impl<P: DataLayer> Nla for InfoPortDataOf<P> {
     #[inline]
     fn value_len(&self) -> usize {
         self.fit_len().unwrap_or(0)
@@ -141,7 +134,7 @@ impl Nla for InfoPortData {
 
     #[inline]
     fn emit_payload(&self, buffer: &mut [u8]) -> usize {
-        self.encode(Write, buffer)
+        P::write_port_data(self, buffer)
     }
 
     #[inline]
@@ -151,8 +144,8 @@ impl Nla for InfoPortData {
 
     #[inline]
     fn fit_len(&self) -> Option<usize> {
-        self.encode(FitLen, &mut [])
+        P::port_data_fit_len(self)
     }
 }
 
-impl ExactEq for InfoPortData {}
+impl<P: LinkLayer + PartialEq> ExactEq for InfoPortDataOf<P> {}

@@ -7,7 +7,7 @@ use crate::layers::data::calls::{ask, read};
 use crate::layers::data::info_data::InfoDataOf;
 use crate::layers::data::payload_family::PayloadFamily;
 use crate::layers::numbers::KindTag;
-use crate::layers::table::LinkPeer;
+use crate::layers::table::LinkLayer;
 // Begin: written by tables/generate from tables/kinds (types).
 use crate::layers::tunnels::{
     InfoAmt, InfoBareUdp, InfoGeneve, InfoGre, InfoGre6, InfoGtp, InfoIpTunnel, InfoVti, InfoVxlan,
@@ -75,7 +75,7 @@ macro_rules! of_tunnel {
     };
 }
 
-impl<P: LinkPeer> PayloadFamily<InfoDataOf<P>> for TunnelFamily {
+impl<P: LinkLayer> PayloadFamily<InfoDataOf<P>> for TunnelFamily {
     fn listing(self) -> Option<Family> {
         match self {
             // Begin: written by tables/generate from tables/kinds (listing).

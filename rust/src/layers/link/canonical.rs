@@ -4,9 +4,9 @@
 
 use crate::compat::AllocError;
 use crate::compat::TryVec;
+use crate::layers::data::DataLayer;
 use crate::layers::link::canonical_into::{canonical_len_of, write_canonical_of};
 use crate::layers::nla_frame::{Bytes, DecodeError, ExactEq};
-use crate::layers::table::LinkPeer;
 use alloc::vec::Vec;
 use core::error::Error;
 use core::fmt;
@@ -59,7 +59,7 @@ impl ExactEq for CanonError {}
 /// memory.
 ///
 /// [`VecLinkInfoOf::parse`]: crate::layers::link::VecLinkInfoOf::parse
-pub fn canon_of<P: LinkPeer>(bytes: &[u8]) -> Result<Vec<u8>, CanonError> {
+pub fn canon_of<P: DataLayer>(bytes: &[u8]) -> Result<Vec<u8>, CanonError> {
     let len = canonical_len_of::<P>(bytes)?;
     let mut string = Vec::new();
     string.try_resize(len, 0)?;

@@ -3,11 +3,12 @@
 //! The canonical encoding of a list, from another encoding of it, in a buffer of the caller and
 //! without allocating.
 
+use crate::layers::data::DataLayer;
 use crate::layers::link::canonical::CanonError;
 use crate::layers::link::item::{measure_item, write_item};
 use crate::layers::link::walk::LinkInfoWalk;
 use crate::layers::nla_frame::{Bytes, DecodeError, ExactEq};
-use crate::layers::table::{LinkPeer, total_with};
+use crate::layers::table::total_with;
 use core::error::Error;
 use core::fmt;
 
@@ -54,7 +55,7 @@ impl ExactEq for CanonIntoError {}
 /// error is that of the first attribute that is rejected. Of accepted attributes the result is the
 /// length, in bytes, of their canonical encoding, or `None` if they do not fit. An attribute that
 /// does not fit does not end the pass, since a later one may be rejected.
-fn rest_measure<P: LinkPeer>(walk: &mut LinkInfoWalk<'_>) -> Result<Option<usize>, DecodeError> {
+fn rest_measure<P: DataLayer>(walk: &mut LinkInfoWalk<'_>) -> Result<Option<usize>, DecodeError> {
     let mut total = Some(0);
     while let Some(next) = walk.advance() {
         let (nla, role) = next?;
@@ -66,7 +67,7 @@ fn rest_measure<P: LinkPeer>(walk: &mut LinkInfoWalk<'_>) -> Result<Option<usize
 
 /// Writes the canonical encoding of the attributes that a walk has not visited to the front of the
 /// buffer. The rest of the buffer is unchanged.
-fn write_rest<P: LinkPeer>(walk: &mut LinkInfoWalk<'_>, buffer: &mut [u8]) {
+fn write_rest<P: DataLayer>(walk: &mut LinkInfoWalk<'_>, buffer: &mut [u8]) {
     let mut place: usize = 0;
     while let Some(next) = walk.advance() {
         let (nla, role) = next.unwrap();
@@ -77,7 +78,7 @@ fn write_rest<P: LinkPeer>(walk: &mut LinkInfoWalk<'_>, buffer: &mut [u8]) {
 /// The length, in bytes, of the canonical encoding of the list that `bytes` encodes, or why there
 /// is none. Each header of the list, and of data, is examined once; those in lists inside the
 /// attributes of data twice.
-pub(crate) fn canonical_len_of<P: LinkPeer>(bytes: &[u8]) -> Result<usize, CanonError> {
+pub(crate) fn canonical_len_of<P: DataLayer>(bytes: &[u8]) -> Result<usize, CanonError> {
     match rest_measure::<P>(&mut LinkInfoWalk::new(bytes))? {
         Some(len) => Ok(len),
         None => Err(CanonError::Unfit),
@@ -87,7 +88,7 @@ pub(crate) fn canonical_len_of<P: LinkPeer>(bytes: &[u8]) -> Result<usize, Canon
 /// Writes the canonical encoding of the list that `bytes` encodes to the front of the buffer. The
 /// rest of the buffer is unchanged. Requires that the bytes are accepted, that the list fits, and
 /// that the buffer has room for the encoding.
-pub(crate) fn write_canonical_of<P: LinkPeer>(bytes: &[u8], buffer: &mut [u8]) {
+pub(crate) fn write_canonical_of<P: DataLayer>(bytes: &[u8], buffer: &mut [u8]) {
     write_rest::<P>(&mut LinkInfoWalk::new(bytes), buffer);
 }
 
@@ -100,7 +101,7 @@ pub(crate) fn write_canonical_of<P: LinkPeer>(bytes: &[u8], buffer: &mut [u8]) {
 /// the encoding.
 ///
 /// [`check_of`]: crate::layers::link::check_of
-pub fn canon_into_of<P: LinkPeer>(
+pub fn canon_into_of<P: DataLayer>(
     bytes: &[u8],
     buffer: &mut [u8],
 ) -> Result<usize, CanonIntoError> {

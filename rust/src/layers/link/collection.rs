@@ -2,22 +2,24 @@
 
 //! The list as a collection of its attributes: built from them, and iterated over.
 
+use crate::layers::data::DataLayer;
 use crate::layers::link::link_info::LinkInfoOf;
 use crate::layers::link::list::VecLinkInfoOf;
 use crate::layers::nla_frame::Nlas;
+use crate::layers::table::LinkLayer;
 use alloc::vec;
 use alloc::vec::Vec;
 use core::slice;
 
 /// The list of these attributes, in order. The `Vec` is moved, not copied.
-impl<P> From<Vec<LinkInfoOf<P>>> for VecLinkInfoOf<P> {
+impl<P: LinkLayer> From<Vec<LinkInfoOf<P>>> for VecLinkInfoOf<P> {
     fn from(items: Vec<LinkInfoOf<P>>) -> VecLinkInfoOf<P> {
         VecLinkInfoOf(Nlas::new(items))
     }
 }
 
 /// Iterates over the attributes in order, by value.
-impl<P> IntoIterator for VecLinkInfoOf<P> {
+impl<P: DataLayer> IntoIterator for VecLinkInfoOf<P> {
     type Item = LinkInfoOf<P>;
 
     type IntoIter = vec::IntoIter<LinkInfoOf<P>>;
@@ -30,7 +32,7 @@ impl<P> IntoIterator for VecLinkInfoOf<P> {
 /// Iterates over the attributes in order, by reference, as [`iter`] does.
 ///
 /// [`iter`]: crate::layers::link::VecLinkInfoOf::iter
-impl<'a, P> IntoIterator for &'a VecLinkInfoOf<P> {
+impl<'a, P: DataLayer> IntoIterator for &'a VecLinkInfoOf<P> {
     type Item = &'a LinkInfoOf<P>;
 
     type IntoIter = slice::Iter<'a, LinkInfoOf<P>>;

@@ -3,15 +3,15 @@
 //! Where two lists of link info differ first.
 
 use crate::layers::data::{
-    DataFamily, Difference, InfoDataOf, InfoPortData, PayloadFamily, PortFamily, family_of,
-    list_difference, port_family_of, same_payloads,
+    DataFamily, DataLayer, Difference, InfoDataOf, InfoPortDataOf, PayloadFamily, PortFamily,
+    family_of, list_difference, port_family_of, same_payloads,
 };
 use crate::layers::link::item::same_item;
 use crate::layers::link::list::check_of;
 use crate::layers::link::placed::ErrorIn;
 use crate::layers::link::role::{CurrentKinds, Role, kinds_after, role_of};
 use crate::layers::nla_frame::{Bytes, Family, HeaderCount, next_attribute};
-use crate::layers::table::{LinkPeer, PlacedNla};
+use crate::layers::table::PlacedNla;
 
 /// The first difference of two attributes with data of one family: in the data if that is a list,
 /// otherwise of the attributes as a whole.
@@ -32,7 +32,7 @@ fn data_difference<D, F: PayloadFamily<D>>(
 }
 
 /// The first difference of two attributes of one type, by the role of the first.
-fn role_difference<P: LinkPeer>(
+fn role_difference<P: DataLayer>(
     role: Role,
     p: &PlacedNla<'_>,
     q: &PlacedNla<'_>,
@@ -40,7 +40,7 @@ fn role_difference<P: LinkPeer>(
     match role {
         Role::Data(tag) => data_difference::<InfoDataOf<P>, DataFamily>(family_of(tag), p, q),
         Role::PortData(tag) => {
-            data_difference::<InfoPortData, PortFamily>(port_family_of(tag), p, q)
+            data_difference::<InfoPortDataOf<P>, PortFamily>(port_family_of(tag), p, q)
         }
         _ if same_item::<P>(&p.nla, &q.nla, role, &mut HeaderCount::new()) => None,
         _ => Some(Difference::of_pair(Family::LinkInfo, p, q)),
@@ -48,7 +48,7 @@ fn role_difference<P: LinkPeer>(
 }
 
 /// The first difference of two accepted lists.
-fn first_difference_in<P: LinkPeer>(a: &[u8], b: &[u8]) -> Option<Difference> {
+fn first_difference_in<P: DataLayer>(a: &[u8], b: &[u8]) -> Option<Difference> {
     let mut count = HeaderCount::new();
     let mut kinds = CurrentKinds::none();
     let mut x = a;
@@ -102,7 +102,10 @@ fn first_difference_in<P: LinkPeer>(a: &[u8], b: &[u8]) -> Option<Difference> {
 ///
 /// [`same_of`]: crate::layers::link::same_of
 /// [`Family::LinkInfo`]: crate::layers::nla_frame::Family::LinkInfo
-pub fn first_difference_of<P: LinkPeer>(a: &[u8], b: &[u8]) -> Result<Option<Difference>, ErrorIn> {
+pub fn first_difference_of<P: DataLayer>(
+    a: &[u8],
+    b: &[u8],
+) -> Result<Option<Difference>, ErrorIn> {
     match check_of::<P>(a) {
         Ok(()) => {}
         Err(error) => return Err(ErrorIn::First(error)),

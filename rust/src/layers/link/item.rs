@@ -4,8 +4,8 @@
 
 use crate::compat::NextMultiple;
 use crate::layers::data::{
-    DataFamily, InfoDataOf, InfoPortData, PayloadFamily, PortFamily, check_payload, family_of,
-    measure_payload, port_family_of, same_payloads, write_canonical_payload,
+    DataFamily, DataLayer, InfoDataOf, InfoPortDataOf, PayloadFamily, PortFamily, check_payload,
+    family_of, measure_payload, port_family_of, same_payloads, write_canonical_payload,
 };
 use crate::layers::link::link_info::LinkInfoOf;
 use crate::layers::link::role::{CurrentKinds, Role, error, name_in};
@@ -18,13 +18,11 @@ use crate::layers::numbers::{
     IFLA_INFO_DATA, IFLA_INFO_KIND, IFLA_INFO_SLAVE_DATA, IFLA_INFO_SLAVE_KIND, IFLA_INFO_XSTATS,
     InfoKind, InfoPortKind, KindTag, PortTag,
 };
-use crate::layers::table::{
-    LinkPeer, Shape, shape_canonical_len, shape_same, shape_write_attribute,
-};
+use crate::layers::table::{Shape, shape_canonical_len, shape_same, shape_write_attribute};
 
 /// Parses an attribute by its role. Requires the current kinds after the attribute, as a walk has
 /// them: if the attribute names a kind, the current kind is that name's.
-pub(crate) fn read_item<P: LinkPeer>(
+pub(crate) fn read_item<P: DataLayer>(
     nla: &NlaBuffer<'_>,
     role: Role,
     kinds_after: CurrentKinds,
@@ -73,7 +71,7 @@ fn read_port_kind(nla: &NlaBuffer<'_>, tag: Option<PortTag>) -> Result<InfoPortK
 /// Validates an attribute by its role: returns `Ok` if `read_item` accepts it, otherwise the error
 /// of the attribute. Requires an attribute that a walk has returned. Does not allocate.
 #[inline(always)]
-pub(crate) fn check_item<P: LinkPeer>(
+pub(crate) fn check_item<P: DataLayer>(
     nla: &NlaBuffer<'_>,
     role: Role,
     count: &mut HeaderCount,
@@ -86,7 +84,7 @@ pub(crate) fn check_item<P: LinkPeer>(
         Role::Xstats => Ok(()),
         Role::PortKind => Ok(()),
         Role::PortData(tag) => {
-            check_payload::<InfoPortData, PortFamily>(port_family_of(tag), nla.value(), count)
+            check_payload::<InfoPortDataOf<P>, PortFamily>(port_family_of(tag), nla.value(), count)
         }
         Role::Misplaced => Err(error(nla, Cause::Order)),
         Role::Unknown => Ok(()),
@@ -95,7 +93,7 @@ pub(crate) fn check_item<P: LinkPeer>(
 
 /// Returns whether two attributes are equivalent by the role of the first. Requires that both are
 /// accepted. Does not allocate.
-pub(crate) fn same_item<P: LinkPeer>(
+pub(crate) fn same_item<P: DataLayer>(
     a: &NlaBuffer<'_>,
     b: &NlaBuffer<'_>,
     role: Role,
@@ -117,7 +115,7 @@ pub(crate) fn same_item<P: LinkPeer>(
         Role::PortKind => same_kind && shape_same(Shape::Name, a.value(), b.value()),
         Role::PortData(tag) => {
             same_kind
-                && same_payloads::<InfoPortData, PortFamily>(
+                && same_payloads::<InfoPortDataOf<P>, PortFamily>(
                     port_family_of(tag),
                     a.value(),
                     b.value(),
@@ -133,7 +131,7 @@ pub(crate) fn same_item<P: LinkPeer>(
 /// error is that of the attribute. Of an accepted attribute the result is the length, in bytes, of
 /// its canonical payload, or `None` if that is above 65531. Requires an attribute that a walk has
 /// returned. Does not allocate.
-pub(crate) fn measure_item<P: LinkPeer>(
+pub(crate) fn measure_item<P: DataLayer>(
     nla: &NlaBuffer<'_>,
     role: Role,
 ) -> Result<Option<usize>, DecodeError> {
@@ -144,7 +142,7 @@ pub(crate) fn measure_item<P: LinkPeer>(
         Role::Xstats => Ok(fitting(value.len())),
         Role::PortKind => Ok(shape_canonical_len(Shape::Name, value)),
         Role::PortData(tag) => {
-            measure_payload::<InfoPortData, PortFamily>(port_family_of(tag), value)
+            measure_payload::<InfoPortDataOf<P>, PortFamily>(port_family_of(tag), value)
         }
         Role::Misplaced => Err(error(nla, Cause::Order)),
         Role::Unknown => Ok(fitting(value.len())),
@@ -155,7 +153,11 @@ pub(crate) fn measure_item<P: LinkPeer>(
 /// returns its length in bytes. The rest of the buffer is unchanged. Requires that the attribute is
 /// accepted, that its canonical payload has at most 65531 bytes, and that the buffer has room. Does
 /// not allocate.
-pub(crate) fn write_item<P: LinkPeer>(nla: &NlaBuffer<'_>, role: Role, buffer: &mut [u8]) -> usize {
+pub(crate) fn write_item<P: DataLayer>(
+    nla: &NlaBuffer<'_>,
+    role: Role,
+    buffer: &mut [u8],
+) -> usize {
     let value = nla.value();
     match role {
         Role::Kind => shape_write_attribute(Shape::Name, IFLA_INFO_KIND, value, buffer),
@@ -167,7 +169,7 @@ pub(crate) fn write_item<P: LinkPeer>(nla: &NlaBuffer<'_>, role: Role, buffer: &
         ),
         Role::Xstats => write_bytes_attribute(IFLA_INFO_XSTATS, value, buffer),
         Role::PortKind => shape_write_attribute(Shape::Name, IFLA_INFO_SLAVE_KIND, value, buffer),
-        Role::PortData(tag) => write_payload::<InfoPortData, PortFamily>(
+        Role::PortData(tag) => write_payload::<InfoPortDataOf<P>, PortFamily>(
             port_family_of(tag),
             IFLA_INFO_SLAVE_DATA,
             value,

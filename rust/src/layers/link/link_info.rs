@@ -2,15 +2,17 @@
 
 //! Attributes of the list inside `IFLA_LINKINFO`, include/uapi/linux/if_link.h.
 
-use crate::layers::data::{InfoDataOf, InfoPortData};
+use crate::layers::data::{DataLayer, InfoDataOf, InfoPortDataOf};
 use crate::layers::link::xstats::LinkXstats;
 use crate::layers::nla_frame::{Bytes, DefaultNla, Emitable, ExactEq, Nla, fitting};
 use crate::layers::numbers::{IFLA_INFO_XSTATS, InfoKind, InfoPortKind};
-use crate::layers::table::LinkPeer;
+use crate::layers::table::LinkLayer;
+use core::fmt::{self, Debug, Formatter};
 
-/// An attribute in `IFLA_LINKINFO`, with peers of type `P`.
-#[derive(Debug, PartialEq, Eq, Hash, PartialOrd, Ord, Clone)]
-pub enum LinkInfoOf<P> {
+/// An attribute in `IFLA_LINKINFO`, over the layer `P`: with peers of its type, and attributes of
+/// its families.
+#[derive(PartialEq, Eq, Hash, PartialOrd, Ord)]
+pub enum LinkInfoOf<P: LinkLayer> {
     /// The statistics of the link (`IFLA_INFO_XSTATS`).
     Xstats(LinkXstats),
     /// The kind of the link (`IFLA_INFO_KIND`).
@@ -21,15 +23,47 @@ pub enum LinkInfoOf<P> {
     /// (`IFLA_INFO_SLAVE_KIND`).
     PortKind(InfoPortKind),
     /// The data of the port (`IFLA_INFO_SLAVE_DATA`).
-    PortData(InfoPortData),
+    PortData(InfoPortDataOf<P>),
     /// An attribute of any other type, kept verbatim.
     Other(DefaultNla),
 }
 
-/// An attribute in `IFLA_LINKINFO`, with peers kept as bytes.
+/// An attribute in `IFLA_LINKINFO`, with peers kept as bytes, and opaque families.
 pub type LinkInfo = LinkInfoOf<Bytes>;
 
-impl<P: LinkPeer> Nla for LinkInfoOf<P> {
+impl<P: LinkLayer + Debug> Debug for LinkInfoOf<P>
+where
+    P::Peer: Debug,
+{
+    fn fmt(&self, f: &mut Formatter<'_>) -> fmt::Result {
+        match self {
+            LinkInfoOf::Xstats(value) => f.debug_tuple("Xstats").field(value).finish(),
+            LinkInfoOf::Kind(value) => f.debug_tuple("Kind").field(value).finish(),
+            LinkInfoOf::Data(value) => f.debug_tuple("Data").field(value).finish(),
+            LinkInfoOf::PortKind(value) => f.debug_tuple("PortKind").field(value).finish(),
+            LinkInfoOf::PortData(value) => f.debug_tuple("PortData").field(value).finish(),
+            LinkInfoOf::Other(value) => f.debug_tuple("Other").field(value).finish(),
+        }
+    }
+}
+
+impl<P: LinkLayer + Clone> Clone for LinkInfoOf<P>
+where
+    P::Peer: Clone,
+{
+    fn clone(&self) -> LinkInfoOf<P> {
+        match self {
+            LinkInfoOf::Xstats(value) => LinkInfoOf::Xstats(value.clone()),
+            LinkInfoOf::Kind(value) => LinkInfoOf::Kind(value.clone()),
+            LinkInfoOf::Data(value) => LinkInfoOf::Data(value.clone()),
+            LinkInfoOf::PortKind(value) => LinkInfoOf::PortKind(value.clone()),
+            LinkInfoOf::PortData(value) => LinkInfoOf::PortData(value.clone()),
+            LinkInfoOf::Other(value) => LinkInfoOf::Other(value.clone()),
+        }
+    }
+}
+
+impl<P: DataLayer> Nla for LinkInfoOf<P> {
     #[inline]
     fn value_len(&self) -> usize {
         match self {
@@ -87,4 +121,4 @@ impl<P: LinkPeer> Nla for LinkInfoOf<P> {
     }
 }
 
-impl<P: ExactEq> ExactEq for LinkInfoOf<P> {}
+impl<P: LinkLayer + PartialEq> ExactEq for LinkInfoOf<P> {}

@@ -3,6 +3,7 @@
 //! The list in `IFLA_LINKINFO`: parsed, validated, compared and serialized.
 
 use crate::compat::TryVec;
+use crate::layers::data::DataLayer;
 use crate::layers::link::item::{check_item, read_item, same_item};
 use crate::layers::link::link_info::LinkInfoOf;
 use crate::layers::link::placed::ErrorIn;
@@ -11,13 +12,14 @@ use crate::layers::link::walk::LinkInfoWalk;
 use crate::layers::nla_frame::{
     Bytes, DecodeError, ExactEq, HeaderCount, Nlas, ToVecError, next_attribute, nlas_to_vec,
 };
-use crate::layers::table::LinkPeer;
+use crate::layers::table::LinkLayer;
 use alloc::vec::Vec;
+use core::fmt::{self, Debug, Formatter};
 use core::slice;
 
 /// Parses the attributes that a walk has not visited. The headers that the walk itself examines are
 /// not counted here.
-fn read_rest<P: LinkPeer>(
+fn read_rest<P: DataLayer>(
     walk: &mut LinkInfoWalk<'_>,
     count: &mut HeaderCount,
 ) -> Result<Vec<LinkInfoOf<P>>, DecodeError> {
@@ -35,7 +37,7 @@ fn read_rest<P: LinkPeer>(
 /// Validates the attributes that a walk has not visited, as `read_rest` parses them. Does not
 /// allocate.
 #[inline(always)]
-fn check_rest<P: LinkPeer>(
+fn check_rest<P: DataLayer>(
     walk: &mut LinkInfoWalk<'_>,
     count: &mut HeaderCount,
 ) -> Result<(), DecodeError> {
@@ -48,7 +50,7 @@ fn check_rest<P: LinkPeer>(
 
 /// Returns whether two accepted byte strings are equivalent, attribute by attribute, each pair
 /// under the current kinds in the first. Does not allocate.
-fn same_strings<P: LinkPeer>(a: &[u8], b: &[u8], count: &mut HeaderCount) -> bool {
+fn same_strings<P: DataLayer>(a: &[u8], b: &[u8], count: &mut HeaderCount) -> bool {
     let mut x = a;
     let mut y = b;
     let mut kinds = CurrentKinds::none();
@@ -71,15 +73,15 @@ fn same_strings<P: LinkPeer>(a: &[u8], b: &[u8], count: &mut HeaderCount) -> boo
 
 /// Validates a whole byte string, and counts each header once.
 #[inline(always)]
-fn check_string<P: LinkPeer>(bytes: &[u8], count: &mut HeaderCount) -> Result<(), DecodeError> {
+fn check_string<P: DataLayer>(bytes: &[u8], count: &mut HeaderCount) -> Result<(), DecodeError> {
     let mut walk = LinkInfoWalk::new(bytes);
     let answer = check_rest::<P>(&mut walk, count);
     count.add(walk.examined());
     answer
 }
 
-/// The contents of `IFLA_LINKINFO` (include/uapi/linux/if_link.h): a list of attributes, with peers
-/// of type `P`.
+/// The contents of `IFLA_LINKINFO` (include/uapi/linux/if_link.h): a list of attributes, over the
+/// layer `P`.
 ///
 /// It is built from a `Vec` by `From`, iterated over by [`iter`] or a `for` loop, and serialized by
 /// [`to_vec`]. To serialize it into an existing buffer, call [`nlas_fit_len`] and [`emit_nlas`] on
@@ -90,15 +92,34 @@ fn check_string<P: LinkPeer>(bytes: &[u8], count: &mut HeaderCount) -> Result<()
 /// [`nlas_fit_len`]: crate::layers::nla_frame::nlas_fit_len
 /// [`emit_nlas`]: crate::layers::nla_frame::emit_nlas
 /// [`as_slice`]: crate::layers::link::VecLinkInfoOf::as_slice
-#[derive(Debug, PartialEq, Eq, Hash, PartialOrd, Ord, Clone)]
-pub struct VecLinkInfoOf<P>(pub Nlas<LinkInfoOf<P>>);
+#[derive(PartialEq, Eq, Hash, PartialOrd, Ord)]
+pub struct VecLinkInfoOf<P: LinkLayer>(pub Nlas<LinkInfoOf<P>>);
 
-/// The contents of `IFLA_LINKINFO`: a list of attributes, with peers kept as bytes.
+impl<P: LinkLayer + Debug> Debug for VecLinkInfoOf<P>
+where
+    P::Peer: Debug,
+{
+    fn fmt(&self, f: &mut Formatter<'_>) -> fmt::Result {
+        f.debug_tuple("VecLinkInfoOf").field(&self.0).finish()
+    }
+}
+
+impl<P: LinkLayer + Clone> Clone for VecLinkInfoOf<P>
+where
+    P::Peer: Clone,
+{
+    fn clone(&self) -> VecLinkInfoOf<P> {
+        VecLinkInfoOf(self.0.clone())
+    }
+}
+
+/// The contents of `IFLA_LINKINFO`: a list of attributes, with peers kept as bytes, and opaque
+/// families.
 pub type VecLinkInfo = VecLinkInfoOf<Bytes>;
 
-impl<P: ExactEq> ExactEq for VecLinkInfoOf<P> {}
+impl<P: LinkLayer + PartialEq> ExactEq for VecLinkInfoOf<P> {}
 
-impl<P> VecLinkInfoOf<P> {
+impl<P: LinkLayer> VecLinkInfoOf<P> {
     /// Returns the `Vec` of the attributes.
     #[must_use]
     pub fn into_vec(self) -> Vec<LinkInfoOf<P>> {
@@ -109,11 +130,6 @@ impl<P> VecLinkInfoOf<P> {
     #[must_use]
     pub fn as_slice(&self) -> &[LinkInfoOf<P>] {
         self.0.as_slice()
-    }
-
-    /// Iterates over the attributes in order, by reference.
-    pub fn iter(&self) -> slice::Iter<'_, LinkInfoOf<P>> {
-        self.0.iter()
     }
 
     /// Returns the number of attributes.
@@ -129,7 +145,12 @@ impl<P> VecLinkInfoOf<P> {
     }
 }
 
-impl<P: LinkPeer> VecLinkInfoOf<P> {
+impl<P: DataLayer> VecLinkInfoOf<P> {
+    /// Iterates over the attributes in order, by reference.
+    pub fn iter(&self) -> slice::Iter<'_, LinkInfoOf<P>> {
+        self.0.iter()
+    }
+
     /// Parses the contents of `IFLA_LINKINFO` as [`parse`] does, and counts the headers examined at
     /// all levels: at most a quarter of the bytes. Requires a counter at zero.
     ///
@@ -188,7 +209,7 @@ impl<P: LinkPeer> VecLinkInfoOf<P> {
 /// once. Does not allocate.
 ///
 /// [`VecLinkInfoOf::parse`]: crate::layers::link::VecLinkInfoOf::parse
-pub fn check_of<P: LinkPeer>(bytes: &[u8]) -> Result<(), DecodeError> {
+pub fn check_of<P: DataLayer>(bytes: &[u8]) -> Result<(), DecodeError> {
     let mut count = HeaderCount::new();
     check_string::<P>(bytes, &mut count)
 }
@@ -202,7 +223,7 @@ pub fn check_of<P: LinkPeer>(bytes: &[u8]) -> Result<(), DecodeError> {
 /// not panic then, the result has no meaning.
 ///
 /// [`check_of`]: crate::layers::link::check_of
-pub fn check_counted_of<P: LinkPeer>(
+pub fn check_counted_of<P: DataLayer>(
     bytes: &[u8],
     count: &mut HeaderCount,
 ) -> Result<(), DecodeError> {
@@ -219,7 +240,7 @@ pub fn check_counted_of<P: LinkPeer>(
 /// not panic then, the result has no meaning.
 ///
 /// [`same_of`]: crate::layers::link::same_of
-pub fn same_counted_of<P: LinkPeer>(
+pub fn same_counted_of<P: DataLayer>(
     a: &[u8],
     b: &[u8],
     count: &mut HeaderCount,
@@ -231,7 +252,7 @@ pub fn same_counted_of<P: LinkPeer>(
 
 /// Returns whether two lists are equivalent, with peers of type `P`. The error is that of the first
 /// list, otherwise that of the second, and says which of the two has it. Does not allocate.
-pub fn same_at_of<P: LinkPeer>(a: &[u8], b: &[u8]) -> Result<bool, ErrorIn> {
+pub fn same_at_of<P: DataLayer>(a: &[u8], b: &[u8]) -> Result<bool, ErrorIn> {
     match check_of::<P>(a) {
         Ok(()) => {}
         Err(error) => return Err(ErrorIn::First(error)),
@@ -250,7 +271,7 @@ pub fn same_at_of<P: LinkPeer>(a: &[u8], b: &[u8]) -> Result<bool, ErrorIn> {
 /// The result of [`same_counted_of`], without counting.
 ///
 /// [`same_counted_of`]: crate::layers::link::same_counted_of
-fn same_uncounted<P: LinkPeer>(a: &[u8], b: &[u8]) -> Result<bool, DecodeError> {
+fn same_uncounted<P: DataLayer>(a: &[u8], b: &[u8]) -> Result<bool, DecodeError> {
     match same_at_of::<P>(a, b) {
         Ok(same) => Ok(same),
         Err(ErrorIn::First(error) | ErrorIn::Second(error)) => Err(error),
@@ -268,7 +289,7 @@ fn same_uncounted<P: LinkPeer>(a: &[u8], b: &[u8]) -> Result<bool, DecodeError> 
 /// [`first_unmet_of`].
 ///
 /// [`first_unmet_of`]: crate::layers::link::first_unmet_of
-pub fn same_of<P: LinkPeer>(a: &[u8], b: &[u8]) -> Result<bool, DecodeError> {
+pub fn same_of<P: DataLayer>(a: &[u8], b: &[u8]) -> Result<bool, DecodeError> {
     same_uncounted::<P>(a, b)
 }
 

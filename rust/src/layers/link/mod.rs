@@ -22,7 +22,7 @@ mod walk;
 mod xstats;
 
 // Lists: parsed, serialized, validated and compared.
-pub use crate::layers::data::{InfoData, InfoDataOf, InfoPortData};
+pub use crate::layers::data::{InfoData, InfoDataOf, InfoPortData, InfoPortDataOf};
 pub use crate::layers::names::{Explanation, attribute_name};
 pub use crate::layers::nla_frame::{
     Bytes, Cause, DecodeError, DefaultNla, Emitable, ExactEq, Family, HeaderCount, Nla, Nlas,

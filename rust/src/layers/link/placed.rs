@@ -3,15 +3,14 @@
 //! The first error of a list, with its offsets.
 
 use crate::layers::data::{
-    DataFamily, InfoDataOf, InfoPortData, PayloadFamily, PortFamily, family_of, list_error,
-    port_family_of,
+    DataFamily, DataLayer, InfoDataOf, InfoPortDataOf, PayloadFamily, PortFamily, family_of,
+    list_error, port_family_of,
 };
 use crate::layers::link::item::check_item;
 use crate::layers::link::role::Role;
 use crate::layers::link::walk::LinkInfoWalk;
 use crate::layers::names::Explanation;
 use crate::layers::nla_frame::{Bytes, DecodeError, ExactEq, HeaderCount, NlaBuffer};
-use crate::layers::table::LinkPeer;
 use core::error::Error;
 use core::fmt;
 
@@ -81,13 +80,13 @@ fn error_in_payload<D, F: PayloadFamily<D>>(family: F, payload: &[u8]) -> usize 
 }
 
 /// The offset of the error of a rejected attribute of the list, in bytes from its header.
-fn error_in<P: LinkPeer>(nla: &NlaBuffer<'_>, role: Role) -> usize {
+fn error_in<P: DataLayer>(nla: &NlaBuffer<'_>, role: Role) -> usize {
     match role {
         Role::Data(tag) => {
             error_in_payload::<InfoDataOf<P>, DataFamily>(family_of(tag), nla.value())
         }
         Role::PortData(tag) => {
-            error_in_payload::<InfoPortData, PortFamily>(port_family_of(tag), nla.value())
+            error_in_payload::<InfoPortDataOf<P>, PortFamily>(port_family_of(tag), nla.value())
         }
         _ => 0,
     }
@@ -101,7 +100,7 @@ fn error_in<P: LinkPeer>(nla: &NlaBuffer<'_>, role: Role) -> usize {
 /// rejected data up to three times. Does not allocate.
 ///
 /// [`check_of`]: crate::layers::link::check_of
-pub fn check_at_of<P: LinkPeer>(bytes: &[u8]) -> Result<(), ErrorAt> {
+pub fn check_at_of<P: DataLayer>(bytes: &[u8]) -> Result<(), ErrorAt> {
     let mut walk = LinkInfoWalk::new(bytes);
     let mut count = HeaderCount::new();
     let mut place = 0;

@@ -3,8 +3,8 @@
 //! Whether a link has all attributes of a request, and which one it lacks.
 
 use crate::layers::data::{
-    DataFamily, InfoDataOf, InfoPortData, PayloadFamily, PortFamily, Unmet, UnmetAt, earlier,
-    family_of, list_unmet, port_family_of, same_payloads,
+    DataFamily, DataLayer, InfoDataOf, InfoPortDataOf, PayloadFamily, PortFamily, Unmet, UnmetAt,
+    earlier, family_of, list_unmet, port_family_of, same_payloads,
 };
 use crate::layers::link::item::same_item;
 use crate::layers::link::list::check_of;
@@ -17,7 +17,7 @@ use crate::layers::numbers::{
     IFLA_INFO_DATA, IFLA_INFO_KIND, IFLA_INFO_SLAVE_DATA, IFLA_INFO_SLAVE_KIND, IFLA_INFO_XSTATS,
     port_tag_of_name, tag_of_name,
 };
-use crate::layers::table::{INDEXED, LastOfType, LinkPeer, PlacedNla, types_end};
+use crate::layers::table::{INDEXED, LastOfType, PlacedNla, types_end};
 
 /// The names of the current kinds.
 #[derive(Clone, Copy)]
@@ -149,7 +149,7 @@ fn belongs_to_a_kind(kind: u16) -> bool {
 }
 
 /// What of an attribute of `want` the last one of its type in `have` does not meet.
-fn placed_unmet<P: LinkPeer>(
+fn placed_unmet<P: DataLayer>(
     have: &[u8],
     found: &Option<PlacedNla<'_>>,
     want: &[u8],
@@ -171,7 +171,7 @@ fn placed_unmet<P: LinkPeer>(
     match role {
         Role::Data(tag) => data_unmet::<InfoDataOf<P>, DataFamily>(family_of(tag), found, placed),
         Role::PortData(tag) => {
-            data_unmet::<InfoPortData, PortFamily>(port_family_of(tag), found, placed)
+            data_unmet::<InfoPortDataOf<P>, PortFamily>(port_family_of(tag), found, placed)
         }
         _ => item_unmet::<P>(role, found, placed),
     }
@@ -179,7 +179,7 @@ fn placed_unmet<P: LinkPeer>(
 
 /// What of an attribute that is no data another one of its type and role does not meet: nothing, or
 /// the whole.
-fn item_unmet<P: LinkPeer>(
+fn item_unmet<P: DataLayer>(
     role: Role,
     have: &PlacedNla<'_>,
     want: &PlacedNla<'_>,
@@ -194,7 +194,7 @@ fn item_unmet<P: LinkPeer>(
 }
 
 /// The first attribute of an accepted list that another one does not meet.
-fn first_unmet_in<P: LinkPeer>(have: &[u8], want: &[u8]) -> Option<Unmet> {
+fn first_unmet_in<P: DataLayer>(have: &[u8], want: &[u8]) -> Option<Unmet> {
     let end = types_end(want);
     let mut first = None;
     let mut block = 0;
@@ -207,7 +207,7 @@ fn first_unmet_in<P: LinkPeer>(have: &[u8], want: &[u8]) -> Option<Unmet> {
 
 /// The first attribute of an accepted list that another one does not meet, among those of `INDEXED`
 /// types from `start` on.
-fn unmet_from<P: LinkPeer>(have: &[u8], want: &[u8], start: u16) -> Option<UnmetAt> {
+fn unmet_from<P: DataLayer>(have: &[u8], want: &[u8], start: u16) -> Option<UnmetAt> {
     let found = LastOfType::new(have, start);
     let wanted = LastOfType::new(want, start);
     let mut count = HeaderCount::new();
@@ -245,7 +245,7 @@ fn unmet_from<P: LinkPeer>(have: &[u8], want: &[u8], start: u16) -> Option<Unmet
 ///
 /// [`list_unmet`]: crate::layers::data::list_unmet
 /// [`Family::LinkInfo`]: crate::layers::nla_frame::Family::LinkInfo
-pub fn first_unmet_of<P: LinkPeer>(have: &[u8], want: &[u8]) -> Result<Option<Unmet>, ErrorIn> {
+pub fn first_unmet_of<P: DataLayer>(have: &[u8], want: &[u8]) -> Result<Option<Unmet>, ErrorIn> {
     match check_of::<P>(have) {
         Ok(()) => {}
         Err(error) => return Err(ErrorIn::First(error)),

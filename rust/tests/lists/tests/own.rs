@@ -1,11 +1,12 @@
 // @generated from crates/linkinfo_tests/src/tests/own.rt by rust/translate/run.
 
-//! A custom peer: links with it parsed, validated, compared and written.
+//! A custom peer, and a custom layer: links with them parsed, validated, compared and written.
 
 use super::assertions::{assert_emitted, assert_equal, assert_parses, bytes_of, nlas};
-use crate::AnyPeer;
+use crate::{AnyLayer, AnyPeer};
 use linkinfo::layers::link::{
-    InfoDataOf, InfoKind, InfoVethOf, LinkInfoOf, VecLinkInfoOf, check_of, same_of,
+    Cause, DecodeError, Family, InfoDataOf, InfoKind, InfoVethOf, InfoXfrm, LinkInfoOf,
+    VecLinkInfoOf, check, check_of, same_of,
 };
 
 /// Veth links whose peers are two bytes, and no bytes.
@@ -33,4 +34,38 @@ fn custom_peer() {
     assert_accepted(&none, &list);
     assert_equal(&"both", &same_of::<AnyPeer>(&two, &none), &Ok(true));
     assert_emitted(list.as_slice(), &none);
+}
+
+/// A vlan link whose data is an attribute of type 2 with four bytes, with flag bits too, and with
+/// one byte.
+const VLANS: [&str; 3] = [
+    "09000100 766c616e 00000000 0c000200 08000200 05000000",
+    "09000100 766c616e 00000000 0c000200 08000280 05000000",
+    "09000100 766c616e 00000000 09000200 05000200 05000000",
+];
+
+#[test]
+fn custom_layer() {
+    let data = InfoDataOf::Vlan(nlas([InfoXfrm::IfId(5)]));
+    let items = [LinkInfoOf::Kind(InfoKind::Vlan), LinkInfoOf::Data(data)];
+    let list: VecLinkInfoOf<AnyLayer> = VecLinkInfoOf(nlas(items));
+    let [plain, flagged, short] = VLANS;
+    let plain = bytes_of(plain);
+    let flagged = bytes_of(flagged);
+    let short = bytes_of(short);
+    assert_parses(
+        &"flagged",
+        VecLinkInfoOf::<AnyLayer>::parse(&flagged),
+        &list,
+    );
+    assert_equal(&"both", &same_of::<AnyLayer>(&plain, &flagged), &Ok(true));
+    assert_emitted(list.as_slice(), &plain);
+    // An error names the family that the layer supplies; opaque families accept every payload.
+    let error = DecodeError {
+        family: Family::Xfrm,
+        kind: 2,
+        cause: Cause::Length,
+    };
+    assert_equal(&"short", &check_of::<AnyLayer>(&short), &Err(error));
+    assert_equal(&"opaque", &check(&short), &Ok(()));
 }

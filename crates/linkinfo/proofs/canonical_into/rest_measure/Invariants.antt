@@ -11,15 +11,15 @@ use Rattle.linkinfo.proofs.canonical_into.rest_measure.Given as goal
 
 abbrev pub invariant-loop-next : goal.invariant-loop-next
 invariant-loop-next g l =
-    let peer = g.P.LinkPeer in
+    let layer = g.P.DataLayer.families in
     let first = l.initial.walk in
-    let all = values_from peer first.kinds (nla_items (left first)) in
-    let now = values_from peer l.walk.kinds (nla_items (left l.walk)) in
+    let all = values_from layer first.kinds (nla_items (left first)) in
+    let now = values_from layer l.walk.kinds (nla_items (left l.walk)) in
     record {
       answer : verdict now ≡ verdict all;
       so_far : IsOk now →
-          Remains l.total (attributes_for (link_attribute peer) now)
-          (attributes_for (link_attribute peer) all);
+          Remains l.total (attributes_for (link_attribute layer) now)
+          (attributes_for (link_attribute layer) all);
     }
 
 abbrev pub decreases-loop-next : goal.decreases-loop-next

@@ -12,15 +12,15 @@ use Rattle.linkinfo.proofs.canonical_into.write_rest.Given as goal
 
 abbrev pub invariant-loop-next : goal.invariant-loop-next
 invariant-loop-next g l =
-    let peer = g.P.LinkPeer in
+    let layer = g.P.DataLayer.families in
     let first = l.initial.walk in
     let all =
-    attributes_for (link_attribute peer) (values_from peer first.kinds (nla_items (left first))) in
+    attributes_for (link_attribute layer) (values_from layer first.kinds (nla_items (left first))) in
     let now =
-    attributes_for (link_attribute peer)
-    (values_from peer l.walk.kinds (nla_items (left l.walk))) in
+    attributes_for (link_attribute layer)
+    (values_from layer l.walk.kinds (nla_items (left l.walk))) in
     record {
-      accepted : IsOk (values_from peer l.walk.kinds (nla_items (left l.walk)));
+      accepted : IsOk (values_from layer l.walk.kinds (nla_items (left l.walk)));
       each : AllByRecursion Fits now;
       so_far : Written (list_string all) (list_string now) l.place l.fn.buffer l.buffer;
     }

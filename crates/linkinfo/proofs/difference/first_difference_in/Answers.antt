@@ -32,7 +32,7 @@ role_difference-difference-requires-clause-first g c =
     let step_x = rw c.in-Some-Ok.field-0-is at c.in-Some-Ok.ensures in
     let step_y = rw c.in-Some-Ok-next_attribute.field-0-is at c.in-Some-Ok-next_attribute.ensures in
     let inv = c.loop-nla.invariant in
-    (paired g.P.LinkPeer _ _ _ _ _ _ _ _ _ c.role_of-role.ensures
+    (paired g.P.DataLayer.families _ _ _ _ _ _ _ _ _ c.role_of-role.ensures
     c.kind-kind.ensures step_x.nla_items_are step_y.nla_items_are inv.first inv.second).first
 
 pub role_difference-difference-requires-clause-second :
@@ -41,7 +41,7 @@ role_difference-difference-requires-clause-second g c =
     let step_x = rw c.in-Some-Ok.field-0-is at c.in-Some-Ok.ensures in
     let step_y = rw c.in-Some-Ok-next_attribute.field-0-is at c.in-Some-Ok-next_attribute.ensures in
     let inv = c.loop-nla.invariant in
-    (paired g.P.LinkPeer _ _ _ _ _ _ _ _ _ c.role_of-role.ensures
+    (paired g.P.DataLayer.families _ _ _ _ _ _ _ _ _ c.role_of-role.ensures
     c.kind-kind.ensures step_x.nla_items_are step_y.nla_items_are inv.first inv.second).second
     (sym c.kind.ensures ∙ c.if-kind.false ∙ c.kind-kind.ensures)
 
@@ -51,13 +51,13 @@ unwrap-kinds-requires g c =
     let step_y = rw c.in-Some-Ok-next_attribute.field-0-is at c.in-Some-Ok-next_attribute.ensures in
     let inv = c.loop-nla.invariant in
     let pair =
-    paired g.P.LinkPeer _ _ _ _ _ _ _ _ _ c.role_of-role.ensures
+    paired g.P.DataLayer.families _ _ _ _ _ _ _ _ _ c.role_of-role.ensures
     c.kind-kind.ensures step_x.nla_items_are step_y.nla_items_are inv.first inv.second in
     subst (λ (r : Result CurrentKinds DecodeError). IsOk r) (sym c.kinds_after.ensures) pair.clean
 
 pub loop-nla-preserved : goal.loop-nla-preserved
 loop-nla-preserved g c =
-    let peer = g.P.LinkPeer in
+    let layer = g.P.DataLayer.families in
     let step_x = rw c.in-Some-Ok.field-0-is at c.in-Some-Ok.ensures in
     let step_y = rw c.in-Some-Ok-next_attribute.field-0-is at c.in-Some-Ok-next_attribute.ensures in
     let inv = c.loop-nla.invariant in
@@ -71,36 +71,36 @@ loop-nla-preserved g c =
     let q : PlacedNla =
     record { offset = length b - length y; nla = c.in-Some-Ok-next_attribute.nla } in
     let pair =
-    paired peer _ _ _ _ _ _ _ _ _ c.role_of-role.ensures c.kind-kind.ensures
+    paired layer _ _ _ _ _ _ _ _ _ c.role_of-role.ensures c.kind-kind.ensures
     step_x.nla_items_are step_y.nla_items_are inv.first inv.second in
     let types : masked q.nla.kind ≡ masked p.nla.kind =
     sym c.kind.ensures ∙ c.if-kind.false ∙ c.kind-kind.ensures in
     let difference = c.role_difference-difference in
     let none = no_difference difference.result (sym c.if-is_some.ensures) in
     let alike =
-    pair_alike peer c.role_of-role.result p q difference.result types pair.first
+    pair_alike layer c.role_of-role.result p q difference.result types pair.first
     (pair.second types) difference.ensures none in
     let kinds =
-    entered_is peer _ _ _ _ _ c.role_of-role.ensures c.kind-kind.ensures
+    entered_is layer _ _ _ _ _ c.role_of-role.ensures c.kind-kind.ensures
     (sym c.kinds_after.ensures ∙ c.unwrap-kinds.ensures) in
     let other = sym (pair.goes_on alike) ∙ kinds in
     let front_a = left_at_attribute a x after_x c.in-Some-Ok.nla _ _ step_x inv.left_a in
     let front_b =
     left_at_attribute b y after_y c.in-Some-Ok-next_attribute.nla _ _ step_y inv.left_b in
     let passes =
-    pair_passes peer c.loop-nla.kinds c.role_of-role.result c.kind-kind.result p q
+    pair_passes layer c.loop-nla.kinds c.role_of-role.result c.kind-kind.result p q
     (left_of a after_x) (left_of b after_y) difference.result c.role_of-role.ensures
     c.kind-kind.ensures types difference.ensures none in
     record {
       first =
-          subst (λ (u : CurrentKinds). IsOk (values_from peer u (nla_items after_x))) kinds
+          subst (λ (u : CurrentKinds). IsOk (values_from layer u (nla_items after_x))) kinds
           pair.first_more;
       second =
-          subst (λ (u : CurrentKinds). IsOk (values_from peer u (nla_items after_y))) other
+          subst (λ (u : CurrentKinds). IsOk (values_from layer u (nla_items after_y))) other
           pair.second_more;
       left =
           ap
-          (λ (u : CurrentKinds). left_difference peer u (left_of a after_x) (left_of b after_y))
+          (λ (u : CurrentKinds). left_difference layer u (left_of a after_x) (left_of b after_y))
           (sym kinds)
           ∙ sym passes
           ∙ (rw (front_a, front_b) at inv.left);

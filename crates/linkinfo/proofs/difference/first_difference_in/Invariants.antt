@@ -10,14 +10,14 @@ use Rattle.linkinfo.proofs.difference.first_difference_in.Given as goal
 
 abbrev pub invariant-loop-nla : goal.invariant-loop-nla
 invariant-loop-nla g l =
-    let peer = g.P.LinkPeer in
+    let layer = g.P.DataLayer.families in
     record {
-      first : IsOk (values_from peer l.kinds (nla_items l.x));
-      second : IsOk (values_from peer l.kinds (nla_items l.y));
+      first : IsOk (values_from layer l.kinds (nla_items l.x));
+      second : IsOk (values_from layer l.kinds (nla_items l.y));
       left :
-          pairs_difference family.LinkInfo (link_difference peer) next_kinds l.kinds
+          pairs_difference family.LinkInfo (link_difference layer) next_kinds l.kinds
           (left_of l.a l.x) (left_of l.b l.y)
-          ≡ strings_difference peer l.a l.b;
+          ≡ strings_difference layer l.a l.b;
       room : 4 * l.count + (length l.x + length l.y) ≤ length l.a + length l.b;
       left_a : length l.x ≤ length l.a;
       left_b : length l.y ≤ length l.b;

@@ -20,7 +20,7 @@ returns-in-Kind g c =
           (with_name_ok _ _ (subst (λ (r : Role). IsOk (kinds_after_role r no_kinds c.args.nla.now))
           c.in-Kind.is c.requires.entered))
           ∙ sym (ap (λ (r : Role).
-          verdict (row_meaning family.LinkInfo link_other (link_row g.P.LinkPeer r)
+          verdict (row_meaning family.LinkInfo link_other (link_row g.P.DataLayer.families r)
           c.args.nla.now)) c.in-Kind.is);
       counted = search (rules, arith);
       rises = omega arith;
@@ -35,7 +35,7 @@ returns-in-PortKind g c =
           (with_name_ok _ _ (subst (λ (r : Role). IsOk (kinds_after_role r no_kinds c.args.nla.now))
           c.in-PortKind.is c.requires.entered))
           ∙ sym (ap (λ (r : Role).
-          verdict (row_meaning family.LinkInfo link_other (link_row g.P.LinkPeer r)
+          verdict (row_meaning family.LinkInfo link_other (link_row g.P.DataLayer.families r)
           c.args.nla.now)) c.in-PortKind.is);
       counted = search (rules, arith);
       rises = omega arith;

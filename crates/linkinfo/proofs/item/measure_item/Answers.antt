@@ -29,23 +29,23 @@ shape_canonical_len-requires-in-PortKind-clause-accepted g c =
 
 pub returns-in-Kind : goal.returns-in-Kind
 returns-in-Kind g c =
-    let peer = g.P.LinkPeer in
+    let layer = g.P.DataLayer.families in
     let checked =
     name_checked (λ name. info.Kind (kind_of_name name)) _
     (with_name_ok _ _ (subst (λ (r : Role). IsOk (kinds_after_role r no_kinds c.args.nla.now))
     c.in-Kind.is c.requires))
     ∙ sym (ap (λ (r : Role).
-    verdict (row_meaning family.LinkInfo link_other (link_row peer r) c.args.nla.now)) c.in-Kind.is)
+    verdict (row_meaning family.LinkInfo link_other (link_row layer r) c.args.nla.now)) c.in-Kind.is)
     in (sym checked, search rules)
 
 pub returns-in-PortKind : goal.returns-in-PortKind
 returns-in-PortKind g c =
-    let peer = g.P.LinkPeer in
+    let layer = g.P.DataLayer.families in
     let checked =
     name_checked (λ name. info.PortKind (port_kind_of_name name)) _
     (with_name_ok _ _ (subst (λ (r : Role). IsOk (kinds_after_role r no_kinds c.args.nla.now))
     c.in-PortKind.is c.requires))
     ∙ sym (ap (λ (r : Role).
-    verdict (row_meaning family.LinkInfo link_other (link_row peer r) c.args.nla.now))
+    verdict (row_meaning family.LinkInfo link_other (link_row layer r) c.args.nla.now))
     c.in-PortKind.is)
     in (sym checked, search rules)

@@ -4,8 +4,8 @@ use Rattle.nla_frame.specs.declared.error.DecodeError.{DecodeError}
 use Rattle.linkinfo_numbers.specs.Kind.{kind_of_name, tag_of_name}
 use Rattle.linkinfo_numbers.specs.PortKind.{port_kind_of_name, port_tag_of_name}
 use Rattle.linkinfo_table.specs.Calls.{Reads}
-use Rattle.linkinfo_table.specs.declared.peer.LinkPeer.{Ghosts}
-use Rattle.linkinfo.specs.declared.link_info.LinkInfoOf.{LinkInfoOf}
+use Rattle.linkinfo_table.specs.Layers.{Families, Types}
+use Rattle.linkinfo.specs.Layered.{LinkOf}
 use Rattle.linkinfo.specs.declared.link_info.LinkInfoOf.TheVariants as info
 use Rattle.linkinfo.specs.declared.role.CurrentKinds.{CurrentKinds}
 use Rattle.linkinfo.specs.declared.role.Role.{Role}
@@ -16,32 +16,32 @@ use Rattle.linkinfo.proofs.Naming.{made_ok, named}
 use Rattle.linkinfo.proofs.item.read_item.Goals as goal
 
 -- an attribute with the name of a kind or of a port kind: `own` is the role of such attributes
-named_read : {P K : Type 0} (peer : Ghosts P) (of_name : List ℕ → K) (label : K → LinkInfoOf P)
+named_read : {L : Types} {K : Type 0} (layer : Families L) (of_name : List ℕ → K) (label : K → LinkOf L)
     (own r : Role) (a : Attribute) → r ≡ own →
-    item_meaning peer own a ≡ named (λ name. label (of_name name)) a →
-    item_headers peer own a ≡ 0 → (kind : K) (len n : ℕ) →
+    item_meaning layer own a ≡ named (λ name. label (of_name name)) a →
+    item_headers layer own a ≡ 0 → (kind : K) (len n : ℕ) →
     with_name (name_meaning a) of_name ≡ Ok kind →
-    Reads (λ value. value) (Ok (label kind)) (item_meaning peer r a) (item_memory peer r a)
-    (item_headers peer r a) len n n
-named_read peer of_name label own r a is means flat kind len n gives =
+    Reads (λ value. value) (Ok (label kind)) (item_meaning layer r a) (item_memory layer r a)
+    (item_headers layer r a) len n n
+named_read layer of_name label own r a is means flat kind len n gives =
     let meant =
-    ap (λ (s : Role). item_meaning peer s a) is ∙ means ∙ made_ok of_name label a kind gives in
+    ap (λ (s : Role). item_meaning layer s a) is ∙ means ∙ made_ok of_name label a kind gives in
     record {
       answer = meant;
       certain = λ _. meant;
-      counted = omega (arith, ap (λ (s : Role). item_headers peer s a) is ∙ flat);
+      counted = omega (arith, ap (λ (s : Role). item_headers layer s a) is ∙ flat);
       rises = omega arith;
       quarter = omega arith;
     }
 
 pub returns-in_ok-read_kind-in-Kind : goal.returns-in_ok-read_kind-in-Kind
 returns-in_ok-read_kind-in-Kind g c =
-    named_read g.P.LinkPeer kind_of_name (λ kind. info.Kind kind) role.Kind _ c.args.nla.now
+    named_read g.P.DataLayer.families kind_of_name (λ kind. info.Kind kind) role.Kind _ c.args.nla.now
     c.in-Kind.is refl refl _ _ _ c.in_ok-read_kind-in-Kind.ensures.answer
 
 pub returns-in_ok-read_port_kind-in-PortKind : goal.returns-in_ok-read_port_kind-in-PortKind
 returns-in_ok-read_port_kind-in-PortKind g c =
-    named_read g.P.LinkPeer port_kind_of_name (λ kind. info.PortKind kind) role.PortKind _
+    named_read g.P.DataLayer.families port_kind_of_name (λ kind. info.PortKind kind) role.PortKind _
     c.args.nla.now c.in-PortKind.is refl refl _ _ _
     c.in_ok-read_port_kind-in-PortKind.ensures.answer
 

@@ -9,7 +9,7 @@ use Rattle.linkinfo_numbers.specs.Kind.{kind_of_name}
 use Rattle.linkinfo_numbers.specs.PortKind.{port_kind_of_name}
 use Rattle.linkinfo_table.specs.Rows.{row_alike, row_headers, row_meaning}
 use Rattle.linkinfo_data.specs.Data.{data_of}
-use Rattle.linkinfo_table.specs.declared.peer.LinkPeer.{Ghosts}
+use Rattle.linkinfo_table.specs.Layers.{Families, Types}
 use Rattle.linkinfo_data.specs.Payloads.{Payload}
 use Rattle.linkinfo.specs.declared.link_info.LinkInfoOf.TheVariants as info
 use Rattle.linkinfo.specs.declared.role.Role.{Role}
@@ -18,17 +18,17 @@ use Rattle.linkinfo.proofs.Naming.{accepted_name}
 use Rattle.linkinfo.proofs.item.same_item.Goals as goal
 
 -- what holds by the role that was found holds by the role that was given
-module _ {P : Type 0} (peer : Ghosts P) (r s : Role) (is : r ≡ s) (a b : Attribute) (x : Bool)
+module _ {L : Types} (layer : Families L) (r s : Role) (is : r ≡ s) (a b : Attribute) (x : Bool)
   where
-    alike_by_role : x ≡ row_alike (link_row peer s) a b → x ≡ row_alike (link_row peer r) a b
-    alike_by_role = subst (λ (t : Role). x ≡ row_alike (link_row peer t) a b) (sym is)
+    alike_by_role : x ≡ row_alike (link_row layer s) a b → x ≡ row_alike (link_row layer r) a b
+    alike_by_role = subst (λ (t : Role). x ≡ row_alike (link_row layer t) a b) (sym is)
 
     counted_by_role : (n o : ℕ) →
-        OnTrue x (n ≡ o + (row_headers (link_row peer s) a + row_headers (link_row peer s) b)) →
-        OnTrue x (n ≡ o + (row_headers (link_row peer r) a + row_headers (link_row peer r) b))
+        OnTrue x (n ≡ o + (row_headers (link_row layer s) a + row_headers (link_row layer s) b)) →
+        OnTrue x (n ≡ o + (row_headers (link_row layer r) a + row_headers (link_row layer r) b))
     counted_by_role n o =
         subst (λ (t : Role).
-        OnTrue x (n ≡ o + (row_headers (link_row peer t) a + row_headers (link_row peer t) b)))
+        OnTrue x (n ≡ o + (row_headers (link_row layer t) a + row_headers (link_row layer t) b)))
         (sym is)
 
 -- attributes of one type are equivalent if their payloads are
@@ -51,7 +51,7 @@ pub shape_same-requires-clause-first : goal.shape_same-requires-clause-first
 shape_same-requires-clause-first g c =
     accepted_name (λ name. info.Kind (kind_of_name name)) c.args.a.now _ c.value.ensures.value
     (subst (λ (r : Role).
-    IsOk (row_meaning family.LinkInfo link_other (link_row g.P.LinkPeer r)
+    IsOk (row_meaning family.LinkInfo link_other (link_row g.P.DataLayer.families r)
     c.args.a.now)) c.in-Kind.is c.requires.first)
 
 pub shape_same-requires-clause-second : goal.shape_same-requires-clause-second
@@ -59,7 +59,7 @@ shape_same-requires-clause-second g c =
     accepted_name (λ name. info.Kind (kind_of_name name)) c.args.b.now _
     c.value-then-same_kind.ensures.value
     (subst (λ (r : Role).
-    IsOk (row_meaning family.LinkInfo link_other (link_row g.P.LinkPeer r)
+    IsOk (row_meaning family.LinkInfo link_other (link_row g.P.DataLayer.families r)
     c.args.b.now)) c.in-Kind.is
     (c.requires.second (sym c.kind.ensures ∙ c.if-same_kind.true ∙ c.kind-2.ensures)))
 
@@ -69,7 +69,7 @@ shape_same-requires-then-same_kind-4-clause-first g c =
     accepted_name (λ name. info.PortKind (port_kind_of_name name)) c.args.a.now _
     c.value-then-same_kind-4.ensures.value
     (subst (λ (r : Role).
-    IsOk (row_meaning family.LinkInfo link_other (link_row g.P.LinkPeer r)
+    IsOk (row_meaning family.LinkInfo link_other (link_row g.P.DataLayer.families r)
     c.args.a.now)) c.in-PortKind.is c.requires.first)
 
 pub shape_same-requires-then-same_kind-4-clause-second :
@@ -78,7 +78,7 @@ shape_same-requires-then-same_kind-4-clause-second g c =
     accepted_name (λ name. info.PortKind (port_kind_of_name name)) c.args.b.now _
     c.value-then-same_kind-4-2.ensures.value
     (subst (λ (r : Role).
-    IsOk (row_meaning family.LinkInfo link_other (link_row g.P.LinkPeer r)
+    IsOk (row_meaning family.LinkInfo link_other (link_row g.P.DataLayer.families r)
     c.args.b.now)) c.in-PortKind.is
     (c.requires.second (sym c.kind.ensures ∙ c.if-same_kind-4.true ∙ c.kind-2.ensures)))
 
@@ -89,14 +89,14 @@ returns-then-same_kind-2 g c =
     let compared = c.same_payloads.ensures in
     record {
       same =
-          alike_by_role g.P.LinkPeer _ _ c.in-Data.is c.args.a.now c.args.b.now _
+          alike_by_role g.P.DataLayer.families _ _ c.in-Data.is c.args.a.now c.args.b.now _
           (alike_of c.args.a.now c.args.b.now _ _ _ _ c.kind.ensures c.kind-2.ensures
           c.if-same_kind-2.true
-          (payloads_alike (data_of g.P.LinkPeer) _ _ c.family_of.ensures _ _ _ _ one other _
+          (payloads_alike (data_of g.P.DataLayer.families) _ _ c.family_of.ensures _ _ _ _ one other _
           compared.same));
       counted =
-          counted_by_role g.P.LinkPeer _ _ c.in-Data.is c.args.a.now c.args.b.now _ _ _
-          (payloads_counted (data_of g.P.LinkPeer) _ _ c.family_of.ensures _ _ _ _ one other _ _ _
+          counted_by_role g.P.DataLayer.families _ _ c.in-Data.is c.args.a.now c.args.b.now _ _ _
+          (payloads_counted (data_of g.P.DataLayer.families) _ _ c.family_of.ensures _ _ _ _ one other _ _ _
           compared.counted);
       rises = compared.rises;
       quarter = omega (arith, compared.quarter, ap length one, ap length other);

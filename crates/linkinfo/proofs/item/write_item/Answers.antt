@@ -13,16 +13,16 @@ use Rattle.linkinfo.proofs.Naming.{accepted_name}
 use Rattle.linkinfo.proofs.item.write_item.Goals as goal
 use Rattle.linkinfo_data.specs.Data.{data_of, family_of}
 use Rattle.linkinfo_data.specs.declared.data.DataFamily.{DataFamily}
-use Rattle.linkinfo_table.specs.declared.peer.LinkPeer.{Ghosts}
+use Rattle.linkinfo_table.specs.Layers.{Families, Types}
 use Rattle.linkinfo_numbers.specs.declared.tags.KindTag.{KindTag}
 use Rattle.linkinfo.specs.declared.role.Role.TheVariants as role
 
 -- what holds of the attribute that is written holds of what the family makes of the payload
-data_written : {P : Type 0} (peer : Ghosts P) (r : Role) (tag : KindTag) (f : DataFamily)
+data_written : {L : Types} (layer : Families L) (r : Role) (tag : KindTag) (f : DataFamily)
     (a : Attribute) (p : List ℕ) → r ≡ role.Data tag → f ≡ family_of tag → p ≡ a.value →
-    (Holds : Attribute → Type 0) → Holds (written_attribute peer r a) →
-    Holds (record { kind = 2; value = (data_of peer f).canonical p })
-data_written peer r tag f a p is found value Holds h = rw (found, value) (rw is at h)
+    (Holds : Attribute → Type 0) → Holds (written_attribute layer r a) →
+    Holds (record { kind = 2; value = (data_of layer f).canonical p })
+data_written layer r tag f a p is found value Holds h = rw (found, value) (rw is at h)
 
 pub shape_write_attribute-requires-clause-accepted :
     goal.shape_write_attribute-requires-clause-accepted
@@ -30,7 +30,7 @@ shape_write_attribute-requires-clause-accepted g c =
     accepted_name (λ name. info.Kind (kind_of_name name)) c.args.nla.now _
     c.value-value.ensures.value
     (subst (λ (r : Role).
-    IsOk (row_meaning family.LinkInfo link_other (link_row g.P.LinkPeer r)
+    IsOk (row_meaning family.LinkInfo link_other (link_row g.P.DataLayer.families r)
     c.args.nla.now)) c.in-Kind.is c.requires.accepted)
 
 pub shape_write_attribute-requires-in-PortKind-clause-accepted :
@@ -39,16 +39,16 @@ shape_write_attribute-requires-in-PortKind-clause-accepted g c =
     accepted_name (λ name. info.PortKind (port_kind_of_name name)) c.args.nla.now _
     c.value-value.ensures.value
     (subst (λ (r : Role).
-    IsOk (row_meaning family.LinkInfo link_other (link_row g.P.LinkPeer r)
+    IsOk (row_meaning family.LinkInfo link_other (link_row g.P.DataLayer.families r)
     c.args.nla.now)) c.in-PortKind.is c.requires.accepted)
 
 pub write_payload-requires-clause-fits : goal.write_payload-requires-clause-fits
 write_payload-requires-clause-fits g c =
-    data_written g.P.LinkPeer _ _ _ c.args.nla.now _ c.in-Data.is
+    data_written g.P.DataLayer.families _ _ _ c.args.nla.now _ c.in-Data.is
     c.family_of.ensures c.value-value.ensures.value Fits c.requires.fits
 
 pub write_payload-requires-clause-room : goal.write_payload-requires-clause-room
 write_payload-requires-clause-room g c =
-    data_written g.P.LinkPeer _ _ _ c.args.nla.now _ c.in-Data.is
+    data_written g.P.DataLayer.families _ _ _ c.args.nla.now _ c.in-Data.is
     c.family_of.ensures c.value-value.ensures.value
     (λ (w : Attribute). buffer_len_of w ≤ length c.args.buffer.now) c.requires.room

@@ -4,4 +4,4 @@ use Rattle.linkinfo.proofs.laws.differences.Goals as goal
 
 pub returns : goal.returns
 returns g c a b first second =
-    none_where _ _ (strings_none g.P.LinkPeer a b first second)
+    none_where _ _ (strings_none g.P.DataLayer.families a b first second)

@@ -18,7 +18,7 @@ use Rattle.linkinfo.proofs.list.check_rest.Goals as goal
 pub returns-in_err-nla : goal.returns-in_err-nla
 returns-in_err-nla g c =
     let stop =
-    stopped g.P.LinkPeer _ _ _
+    stopped g.P.DataLayer.families _ _ _
     (rw c.in_err-nla.was at c.in-Some.ensures.step) in
     let inv = c.loop-next.invariant in
     let same = sym inv.answer ∙ ap verdict stop.values in
@@ -32,7 +32,7 @@ returns-in_err-nla g c =
 pub loop-next-preserved : goal.loop-next-preserved
 loop-next-preserved g c =
     let step =
-    entered g.P.LinkPeer _ _ _ _
+    entered g.P.DataLayer.families _ _ _ _
     (rw c.in_ok-nla.was at c.in-Some.ensures.step) in
     let checked = c.in_ok-check_item.ensures in
     let inv = c.loop-next.invariant in
@@ -42,7 +42,7 @@ loop-next-preserved g c =
         arith,
         inv.counted,
         step.headers,
-        checked_on _ (headers_from g.P.LinkPeer c.advance.new.self.kinds
+        checked_on _ (headers_from g.P.DataLayer.families c.advance.new.self.kinds
             (nla_items (left c.advance.new.self))) checked.answer,
         step.examined,
         checked.counted,
@@ -53,20 +53,20 @@ loop-next-preserved g c =
 pub loop-next-smaller : goal.loop-next-smaller
 loop-next-smaller g c =
     let step =
-    entered g.P.LinkPeer _ _ _ _
+    entered g.P.DataLayer.families _ _ _ _
     (rw c.in_ok-nla.was at c.in-Some.ensures.step) in
     omega (arith, step.room)
 
 pub returns-in_err-check_item : goal.returns-in_err-check_item
 returns-in_err-check_item g c =
     let step =
-    entered g.P.LinkPeer _ _ _ _
+    entered g.P.DataLayer.families _ _ _ _
     (rw c.in_ok-nla.was at c.in-Some.ensures.step) in
     let checked = c.in_err-check_item.ensures in
     let inv = c.loop-next.invariant in
     let same = checked_error _ _ _ _ _ inv.answer step.values checked.answer in
     let off =
-    checked_off _ _ (headers_from g.P.LinkPeer c.advance.new.self.kinds
+    checked_off _ _ (headers_from g.P.DataLayer.families c.advance.new.self.kinds
     (nla_items (left c.advance.new.self))) checked.answer in
     record {
       answer = search rules;
@@ -78,7 +78,7 @@ returns-in_err-check_item g c =
 pub returns : goal.returns
 returns g c =
     let inv = c.loop-next.invariant in
-    let end = headers_end g.P.LinkPeer c.loop-next.walk.kinds _ c.in_default.ensures.step.1 in
+    let end = headers_end g.P.DataLayer.families c.loop-next.walk.kinds _ c.in_default.ensures.step.1 in
     let examined = ap (λ (w : LinkWalk). w.attributes.examined) c.in_default.ensures.step.0 in
     record {
       answer = search rules;

@@ -7,15 +7,15 @@ use Rattle.linkinfo.proofs.list.check_rest.Given as goal
 
 abbrev pub invariant-loop-next : goal.invariant-loop-next
 invariant-loop-next g l =
-    let peer = g.P.LinkPeer in
+    let layer = g.P.DataLayer.families in
     let first = l.initial.walk in
     record {
-      answer : verdict (values_from peer l.walk.kinds (nla_items (left l.walk)))
-          ≡ verdict (values_from peer first.kinds (nla_items (left first)));
+      answer : verdict (values_from layer l.walk.kinds (nla_items (left l.walk)))
+          ≡ verdict (values_from layer first.kinds (nla_items (left first)));
       counted : (l.count + l.walk.attributes.examined)
-          + headers_from peer l.walk.kinds (nla_items (left l.walk))
+          + headers_from layer l.walk.kinds (nla_items (left l.walk))
           ≡ (l.initial.count + first.attributes.examined)
-          + headers_from peer first.kinds (nla_items (left first));
+          + headers_from layer first.kinds (nla_items (left first));
       room : 4 * (l.count + l.walk.attributes.examined) + length (left l.walk)
           ≤ 4 * (l.initial.count + first.attributes.examined) + length (left first);
     }

@@ -6,5 +6,5 @@ pub returns-clause-no_memory : goal.returns-clause-no_memory
 unfolding reading
 returns-clause-no_memory g c =
     let answer = rw c.new-walk.ensures at c.check_rest-answer.ensures.answer in
-    checked_no_memory g.P.LinkPeer c.families_lawful.ensures c.args.bytes.now
+    checked_no_memory g.P.DataLayer.families c.families_lawful.ensures c.args.bytes.now
     _ answer

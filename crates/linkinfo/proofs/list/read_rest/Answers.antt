@@ -25,21 +25,21 @@ current_kinds kinds = Ok kinds
 pub read_item-requires-clause-entered : goal.read_item-requires-clause-entered
 read_item-requires-clause-entered g c =
     let step =
-    entered g.P.LinkPeer _ _ _ _
+    entered g.P.DataLayer.families _ _ _ _
     (rw c.in_ok-nla.was at c.in-Some.ensures.step) in
     (c.loop-next.walk.kinds, step.kinds_after ∙ ap current_kinds (sym c.current_kinds.ensures))
 
 pub read_item-requires-clause-room : goal.read_item-requires-clause-room
 read_item-requires-clause-room g c =
     let step =
-    entered g.P.LinkPeer _ _ _ _
+    entered g.P.DataLayer.families _ _ _ _
     (rw c.in_ok-nla.was at c.in-Some.ensures.step) in
     omega (arith, c.requires, c.loop-next.invariant.room, step.room)
 
 pub returns-in_err-nla : goal.returns-in_err-nla
 returns-in_err-nla g c =
     let stop =
-    stopped g.P.LinkPeer _ _ _
+    stopped g.P.DataLayer.families _ _ _
     (rw c.in_err-nla.was at c.in-Some.ensures.step) in
     let inv = c.loop-next.invariant in
     record {
@@ -53,7 +53,7 @@ returns-in_err-nla g c =
 pub loop-next-preserved : goal.loop-next-preserved
 loop-next-preserved g c =
     let step =
-    entered g.P.LinkPeer _ _ _ _
+    entered g.P.DataLayer.families _ _ _ _
     (rw c.in_ok-nla.was at c.in-Some.ensures.step) in
     let read = c.in-Ok.ensures in
     let inv = c.loop-next.invariant in
@@ -66,7 +66,7 @@ loop-next-preserved g c =
         arith,
         inv.counted,
         step.headers,
-        headers_on _ _ (headers_from g.P.LinkPeer c.advance.new.self.kinds
+        headers_on _ _ (headers_from g.P.DataLayer.families c.advance.new.self.kinds
             (nla_items (left c.advance.new.self))) read.answer,
         step.examined,
         read.counted,
@@ -78,14 +78,14 @@ loop-next-preserved g c =
 pub loop-next-smaller : goal.loop-next-smaller
 loop-next-smaller g c =
     let step =
-    entered g.P.LinkPeer _ _ _ _
+    entered g.P.DataLayer.families _ _ _ _
     (rw c.in_ok-nla.was at c.in-Some.ensures.step) in
     omega (arith, step.room)
 
 pub returns-in-Err : goal.returns-in-Err
 returns-in-Err g c =
     let step =
-    entered g.P.LinkPeer _ _ _ _
+    entered g.P.DataLayer.families _ _ _ _
     (rw c.in_ok-nla.was at c.in-Some.ensures.step) in
     let read = c.in-Err.ensures in
     let inv = c.loop-next.invariant in
@@ -104,7 +104,7 @@ returns-in-Err g c =
 pub returns-in_err-push-in-Ok : goal.returns-in_err-push-in-Ok
 returns-in_err-push-in-Ok g c =
     let step =
-    entered g.P.LinkPeer _ _ _ _
+    entered g.P.DataLayer.families _ _ _ _
     (rw c.in_ok-nla.was at c.in-Some.ensures.step) in
     let read = c.in-Ok.ensures in
     let inv = c.loop-next.invariant in
@@ -120,7 +120,7 @@ pub returns : goal.returns
 returns g c =
     let inv = c.loop-next.invariant in
     let examined = ap (λ (w : LinkWalk). w.attributes.examined) c.in_default.ensures.step.0 in
-    let answer = read_end g.P.LinkPeer _ _ c.in_default.ensures.step.1 _ _ inv.answer in
+    let answer = read_end g.P.DataLayer.families _ _ c.in_default.ensures.step.1 _ _ inv.answer in
     record {
       answer = answer;
       certain = λ _. answer;
@@ -128,7 +128,7 @@ returns g c =
           omega (
             arith,
             inv.counted,
-            headers_end g.P.LinkPeer c.loop-next.walk.kinds _ c.in_default.ensures.step.1,
+            headers_end g.P.DataLayer.families c.loop-next.walk.kinds _ c.in_default.ensures.step.1,
             examined,
           );
       rises = omega (arith, inv.rises, examined);

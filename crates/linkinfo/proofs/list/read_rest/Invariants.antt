@@ -7,17 +7,17 @@ use Rattle.linkinfo.proofs.list.read_rest.Given as goal
 
 abbrev pub invariant-loop-next : goal.invariant-loop-next
 invariant-loop-next g l =
-    let peer = g.P.LinkPeer in
+    let layer = g.P.DataLayer.families in
     let first = l.initial.walk in
     record {
-      answer : append_to l.items.items (values_from peer l.walk.kinds (nla_items (left l.walk)))
-          ≡ values_from peer first.kinds (nla_items (left first));
-      certain : memory_from peer first.kinds (nla_items (left first)) ≡ false →
-          memory_from peer l.walk.kinds (nla_items (left l.walk)) ≡ false;
+      answer : append_to l.items.items (values_from layer l.walk.kinds (nla_items (left l.walk)))
+          ≡ values_from layer first.kinds (nla_items (left first));
+      certain : memory_from layer first.kinds (nla_items (left first)) ≡ false →
+          memory_from layer l.walk.kinds (nla_items (left l.walk)) ≡ false;
       counted : (l.count + l.walk.attributes.examined)
-          + headers_from peer l.walk.kinds (nla_items (left l.walk))
+          + headers_from layer l.walk.kinds (nla_items (left l.walk))
           ≡ (l.initial.count + first.attributes.examined)
-          + headers_from peer first.kinds (nla_items (left first));
+          + headers_from layer first.kinds (nla_items (left first));
       rises : l.initial.count + first.attributes.examined ≤ l.count + l.walk.attributes.examined;
       room : 4 * (l.count + l.walk.attributes.examined) + length (left l.walk)
           ≤ 4 * (l.initial.count + first.attributes.examined) + length (left first);

@@ -13,7 +13,7 @@ same_item-requires-clause-first g c =
     let on_x = rw c.unwrap-p.ensures at c.in-Some.ensures in
     let on_y = rw c.unwrap-q.ensures at c.in-Some-next_attribute.ensures in
     let inv = c.loop-next.invariant in
-    (paired g.P.LinkPeer _ _ _ _ _ _ _ _ _ c.role_of-role.ensures
+    (paired g.P.DataLayer.families _ _ _ _ _ _ _ _ _ c.role_of-role.ensures
     c.kind.ensures on_x.nla_items_are on_y.nla_items_are inv.first inv.second).first
 
 pub same_item-requires-clause-second : goal.same_item-requires-clause-second
@@ -21,7 +21,7 @@ same_item-requires-clause-second g c =
     let on_x = rw c.unwrap-p.ensures at c.in-Some.ensures in
     let on_y = rw c.unwrap-q.ensures at c.in-Some-next_attribute.ensures in
     let inv = c.loop-next.invariant in
-    (paired g.P.LinkPeer _ _ _ _ _ _ _ _ _ c.role_of-role.ensures
+    (paired g.P.DataLayer.families _ _ _ _ _ _ _ _ _ c.role_of-role.ensures
     c.kind.ensures on_x.nla_items_are on_y.nla_items_are inv.first inv.second).second
 
 pub unwrap-kinds-requires : goal.unwrap-kinds-requires
@@ -30,7 +30,7 @@ unwrap-kinds-requires g c =
     let on_y = rw c.unwrap-q.ensures at c.in-Some-next_attribute.ensures in
     let inv = c.loop-next.invariant in
     let pair =
-    paired g.P.LinkPeer _ _ _ _ _ _ _ _ _ c.role_of-role.ensures
+    paired g.P.DataLayer.families _ _ _ _ _ _ _ _ _ c.role_of-role.ensures
     c.kind.ensures on_x.nla_items_are on_y.nla_items_are inv.first inv.second in
     subst (λ (r : Result CurrentKinds DecodeError). IsOk r) (sym c.kinds_after.ensures) pair.clean
 
@@ -40,7 +40,7 @@ returns-then-not-same_item g c =
     let on_y = rw c.unwrap-q.ensures at c.in-Some-next_attribute.ensures in
     let inv = c.loop-next.invariant in
     let pair =
-    paired g.P.LinkPeer _ _ _ _ _ _ _ _ _ c.role_of-role.ensures
+    paired g.P.DataLayer.families _ _ _ _ _ _ _ _ _ c.role_of-role.ensures
     c.kind.ensures on_x.nla_items_are on_y.nla_items_are inv.first inv.second in
     let compared = c.same_item.ensures in
     record {
@@ -67,28 +67,28 @@ loop-next-preserved g c =
     let on_y = rw c.unwrap-q.ensures at c.in-Some-next_attribute.ensures in
     let inv = c.loop-next.invariant in
     let pair =
-    paired g.P.LinkPeer _ _ _ _ _ _ _ _ _ c.role_of-role.ensures
+    paired g.P.DataLayer.families _ _ _ _ _ _ _ _ _ c.role_of-role.ensures
     c.kind.ensures on_x.nla_items_are on_y.nla_items_are inv.first inv.second in
-    let peer = g.P.LinkPeer in
+    let layer = g.P.DataLayer.families in
     let alike = sym c.same_item.ensures.same ∙ c.if-not-same_item.false in
     let kinds =
-    entered_is peer _ _ _ _ _ c.role_of-role.ensures c.kind.ensures
+    entered_is layer _ _ _ _ _ c.role_of-role.ensures c.kind.ensures
     (sym c.kinds_after.ensures ∙ c.unwrap-kinds.ensures) in
     let other = sym (pair.goes_on alike) ∙ kinds in
     record {
       first =
           subst
-          (λ (u : CurrentKinds). IsOk (values_from peer u (nla_items c.unwrap-p.result.1.now)))
+          (λ (u : CurrentKinds). IsOk (values_from layer u (nla_items c.unwrap-p.result.1.now)))
           kinds
           pair.first_more;
       second =
           subst
-          (λ (u : CurrentKinds). IsOk (values_from peer u (nla_items c.unwrap-q.result.1.now)))
+          (λ (u : CurrentKinds). IsOk (values_from layer u (nla_items c.unwrap-q.result.1.now)))
           other
           pair.second_more;
       same =
           ap (λ (u : CurrentKinds).
-          alike_from peer u (nla_items c.unwrap-p.result.1.now) (nla_items c.unwrap-q.result.1.now))
+          alike_from layer u (nla_items c.unwrap-p.result.1.now) (nla_items c.unwrap-q.result.1.now))
           (sym kinds)
           ∙ sym (pair.same ∙ along _ _ alike)
           ∙ inv.same;
@@ -101,10 +101,10 @@ loop-next-preserved g c =
             pair.headers_x,
             pair.headers_y alike,
             ap
-                (λ (u : CurrentKinds). headers_from peer u (nla_items c.unwrap-p.result.1.now))
+                (λ (u : CurrentKinds). headers_from layer u (nla_items c.unwrap-p.result.1.now))
                 kinds,
             ap
-                (λ (u : CurrentKinds). headers_from peer u (nla_items c.unwrap-q.result.1.now))
+                (λ (u : CurrentKinds). headers_from layer u (nla_items c.unwrap-q.result.1.now))
                 other,
             on_true _ _ c.if-not-same_item.false c.same_item.ensures.counted,
           );

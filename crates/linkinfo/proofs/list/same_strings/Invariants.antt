@@ -7,16 +7,16 @@ use Rattle.linkinfo.proofs.list.same_strings.Given as goal
 
 abbrev pub invariant-loop-next : goal.invariant-loop-next
 invariant-loop-next g l =
-    let peer = g.P.LinkPeer in
+    let layer = g.P.DataLayer.families in
     record {
-      first : IsOk (values_from peer l.kinds (nla_items l.x));
-      second : IsOk (values_from peer l.kinds (nla_items l.y));
-      same : alike_from peer l.kinds (nla_items l.x) (nla_items l.y)
-          ≡ alike_from peer no_kinds (nla_items l.a) (nla_items l.b);
+      first : IsOk (values_from layer l.kinds (nla_items l.x));
+      second : IsOk (values_from layer l.kinds (nla_items l.y));
+      same : alike_from layer l.kinds (nla_items l.x) (nla_items l.y)
+          ≡ alike_from layer no_kinds (nla_items l.a) (nla_items l.b);
       counted : l.count
-          + (headers_from peer l.kinds (nla_items l.x) + headers_from peer l.kinds (nla_items l.y))
-          ≡ l.fn.count + (headers_from peer no_kinds (nla_items l.a)
-          + headers_from peer no_kinds (nla_items l.b));
+          + (headers_from layer l.kinds (nla_items l.x) + headers_from layer l.kinds (nla_items l.y))
+          ≡ l.fn.count + (headers_from layer no_kinds (nla_items l.a)
+          + headers_from layer no_kinds (nla_items l.b));
       rises : l.fn.count ≤ l.count;
       room : 4 * l.count + (length l.x + length l.y) ≤ 4 * l.fn.count + (length l.a + length l.b);
     }

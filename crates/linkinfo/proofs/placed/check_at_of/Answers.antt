@@ -18,8 +18,8 @@ loop-next-init g c =
     let s = c.args.bytes.now in
     record {
       went =
-          subst (λ (w : LinkWalk). Went g.P.LinkPeer s w) (sym start)
-          (begins g.P.LinkPeer s);
+          subst (λ (w : LinkWalk). Went g.P.DataLayer.families s w) (sym start)
+          (begins g.P.DataLayer.families s);
       place = ap place_of (sym start);
       room =
           subst (λ (w : LinkWalk). 4 * (c.new-count.result + w.attributes.examined)
@@ -32,7 +32,7 @@ loop-next-preserved g c =
     let inv = c.loop-next.invariant in
     record {
       went =
-          goes_on g.P.LinkPeer _ _ _ _ _ inv.went enters
+          goes_on g.P.DataLayer.families _ _ _ _ _ inv.went enters
           c.in-Some.ensures.source c.in-Ok-check_item.ensures.answer;
       place = c.place-place.ensures;
       room = omega (
@@ -46,22 +46,22 @@ loop-next-preserved g c =
 
 pub returns-in-Err-check_item-clause-inner : goal.returns-in-Err-check_item-clause-inner
 returns-in-Err-check_item-clause-inner g c =
-    let peer = g.P.LinkPeer in
+    let layer = g.P.DataLayer.families in
     let enters = rw c.in-Ok.is at c.in-Some.ensures.step in
     let inv = c.loop-next.invariant in
     let at =
-    inside_at peer _ _ _ _ _ _ (λ i. omega (arith, c.type_inv.bytes i)) inv.went enters
+    inside_at layer _ _ _ _ _ _ (λ i. omega (arith, c.type_inv.bytes i)) inv.went enters
     c.in-Err-check_item.ensures.answer in
     rw (inv.place, c.error_in.ensures.offset, enters.role) at
 
 pub returns-in-Err-check_item-clause-place : goal.returns-in-Err-check_item-clause-place
 returns-in-Err-check_item-clause-place g c =
-    rejected_at g.P.LinkPeer c.args.bytes.now c.in-Err-check_item.error _ _
+    rejected_at g.P.DataLayer.families c.args.bytes.now c.in-Err-check_item.error _ _
     (returns-in-Err-check_item-clause-inner g c)
 
 pub returns-in-Err-check_item-clause-answer : goal.returns-in-Err-check_item-clause-answer
 returns-in-Err-check_item-clause-answer g c =
-    reads_error g.P.LinkPeer c.args.bytes.now _
+    reads_error g.P.DataLayer.families c.args.bytes.now _
     (λ i. omega (arith, c.type_inv.bytes i)) (returns-in-Err-check_item-clause-place g c).0
 
 pub returns-in-Err-clause-inner : goal.returns-in-Err-clause-inner
@@ -69,21 +69,21 @@ returns-in-Err-clause-inner g c =
     let stops = rw c.in-Err.is at c.in-Some.ensures.step in
     let inv = c.loop-next.invariant in
     let at =
-    stops_at g.P.LinkPeer _ _ _ _ (λ i. omega (arith, c.type_inv.bytes i))
+    stops_at g.P.DataLayer.families _ _ _ _ (λ i. omega (arith, c.type_inv.bytes i))
     inv.went stops in
     rw inv.place at
 
 pub returns-in-Err-clause-place : goal.returns-in-Err-clause-place
 returns-in-Err-clause-place g c =
-    rejected_at g.P.LinkPeer c.args.bytes.now c.in-Err.error _ _
+    rejected_at g.P.DataLayer.families c.args.bytes.now c.in-Err.error _ _
     (returns-in-Err-clause-inner g c)
 
 pub returns-in-Err-clause-answer : goal.returns-in-Err-clause-answer
 returns-in-Err-clause-answer g c =
-    reads_error g.P.LinkPeer c.args.bytes.now _
+    reads_error g.P.DataLayer.families c.args.bytes.now _
     (λ i. omega (arith, c.type_inv.bytes i)) (returns-in-Err-clause-place g c).0
 
 pub returns-clause-answer : goal.returns-clause-answer
 returns-clause-answer g c =
-    ends g.P.LinkPeer c.args.bytes.now c.loop-next.walk
+    ends g.P.DataLayer.families c.args.bytes.now c.loop-next.walk
     c.loop-next.invariant.went c.in_default.ensures.step.1

@@ -9,14 +9,14 @@ use Rattle.linkinfo.proofs.unmet.first_unmet_in.Goals as goal
 
 pub loop-block-init : goal.loop-block-init
 loop-block-init g c =
-    let peer = g.P.LinkPeer in
-    let unmet = counted_unmet peer c.args.have.now c.args.want.now in
+    let layer = g.P.DataLayer.families in
+    let unmet = counted_unmet layer c.args.have.now c.args.want.now in
     record { first = sym (none_below unmet (attributes_of c.args.want.now)) }
 
 pub loop-block-preserved : goal.loop-block-preserved
 loop-block-preserved g c =
-    let peer = g.P.LinkPeer in
-    let unmet = counted_unmet peer c.args.have.now c.args.want.now in
+    let layer = g.P.DataLayer.families in
+    let unmet = counted_unmet layer c.args.have.now c.args.want.now in
     let want = attributes_of c.args.want.now in
     record {
       first =
@@ -33,17 +33,17 @@ overflow_add-block g c = omega (arith, c.loop-block-test.true, c.types_end-end.e
 
 pub returns-in_err-first : goal.returns-in_err-first
 returns-in_err-first g c =
-    let peer = g.P.LinkPeer in
+    let layer = g.P.DataLayer.families in
     c.from_residual.ensures
     ∙ (ap unmet_in (sym c.in_err-first.was)
-    ∙ whole_list peer c.args.have.now c.args.want.now c.loop-block.block c.loop-block.first
+    ∙ whole_list layer c.args.have.now c.args.want.now c.loop-block.block c.loop-block.first
     c.loop-block.invariant.first
     (omega (arith, c.loop-block-test.false, c.types_end-end.ensures.end)))
 
 pub returns : goal.returns
 returns g c =
-    let peer = g.P.LinkPeer in
+    let layer = g.P.DataLayer.families in
     ap unmet_in (sym c.in_ok-first.was)
-    ∙ whole_list peer c.args.have.now c.args.want.now c.loop-block.block c.loop-block.first
+    ∙ whole_list layer c.args.have.now c.args.want.now c.loop-block.block c.loop-block.first
     c.loop-block.invariant.first
     (omega (arith, c.loop-block-test.false, c.types_end-end.ensures.end))

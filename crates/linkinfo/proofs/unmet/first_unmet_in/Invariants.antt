@@ -6,8 +6,8 @@ use Rattle.linkinfo.proofs.unmet.first_unmet_in.Given as goal
 
 abbrev pub invariant-loop-block : goal.invariant-loop-block
 invariant-loop-block g l =
-    let peer = g.P.LinkPeer in
-    let unmet = counted_unmet peer l.have l.want in
+    let layer = g.P.DataLayer.families in
+    let unmet = counted_unmet layer l.have l.want in
     record { first : l.first ≡ first_told (λ k. nat_lt k l.block) unmet (attributes_of l.want) }
 
 abbrev pub decreases-loop-block : goal.decreases-loop-block

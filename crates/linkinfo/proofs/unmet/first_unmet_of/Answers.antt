@@ -7,5 +7,5 @@ pub returns-then-eq-clause-answer : goal.returns-then-eq-clause-answer
 returns-then-eq-clause-answer g c =
     let same =
     (bytes_eq-Decides c.args.have.now c.args.want.now).0 (sym c.eq.ensures ∙ c.if-eq.true) in
-    equal_answer g.P.LinkPeer c.args.have.now c.args.want.now same
+    equal_answer g.P.DataLayer.families c.args.have.now c.args.want.now same
     (c.in-Ok.ensures.answer)

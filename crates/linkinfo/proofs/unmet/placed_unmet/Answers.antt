@@ -7,7 +7,7 @@ use Rattle.linkinfo.proofs.unmet.placed_unmet.Goals as goal
 
 pub item_unmet-requires-clause-have : goal.item_unmet-requires-clause-have
 item_unmet-requires-clause-have g c =
-    (free_roles g.P.LinkPeer c.args.have.now c.args.want.now c.in-Some.found
+    (free_roles g.P.DataLayer.families c.args.have.now c.args.want.now c.in-Some.found
     c.args.placed.now c.kind-kind.result c.none.result c.role_of.result c.role_of.ensures
     c.kind-kind.ensures (sym c.if-not-belongs_to_a_kind.ensures)
     (rw c.in-Some.is at c.requires.same_type) (rw c.in-Some.is at c.requires.have)
@@ -15,7 +15,7 @@ item_unmet-requires-clause-have g c =
 
 pub item_unmet-requires-clause-want : goal.item_unmet-requires-clause-want
 item_unmet-requires-clause-want g c =
-    (free_roles g.P.LinkPeer c.args.have.now c.args.want.now c.in-Some.found
+    (free_roles g.P.DataLayer.families c.args.have.now c.args.want.now c.in-Some.found
     c.args.placed.now c.kind-kind.result c.none.result c.role_of.result c.role_of.ensures
     c.kind-kind.ensures (sym c.if-not-belongs_to_a_kind.ensures)
     (rw c.in-Some.is at c.requires.same_type) (rw c.in-Some.is at c.requires.have)
@@ -23,74 +23,74 @@ item_unmet-requires-clause-want g c =
 
 pub returns-then-not-belongs_to_a_kind : goal.returns-then-not-belongs_to_a_kind
 returns-then-not-belongs_to_a_kind g c =
-    let peer = g.P.LinkPeer in
+    let layer = g.P.DataLayer.families in
     let have = c.args.have.now in
     let w = link_at c.args.want.now c.args.placed.now in
     c.item_unmet.ensures
-    ∙ free_unmet peer (link_at have c.in-Some.found) w c.kind-kind.result c.none.result
+    ∙ free_unmet layer (link_at have c.in-Some.found) w c.kind-kind.result c.none.result
     c.role_of.result c.role_of.ensures c.kind-kind.ensures
     (sym c.if-not-belongs_to_a_kind.ensures)
     ∙ sym
-    (ap (λ (o : Option PlacedNla). link_unmet peer (option_map (link_at have) o) w)
+    (ap (λ (o : Option PlacedNla). link_unmet layer (option_map (link_at have) o) w)
     c.in-Some.is)
 
 pub data_unmet-requires-clause-have : goal.data_unmet-requires-clause-have
 data_unmet-requires-clause-have g c =
-    let peer = g.P.LinkPeer in
+    let layer = g.P.DataLayer.families in
     let both =
-    roles peer c.args.have.now c.args.want.now c.in-Some.found c.args.placed.now
+    roles layer c.args.have.now c.args.want.now c.in-Some.found c.args.placed.now
     c.kind-kind.result c.kinds.result (names_in c.names_before-had.result)
     (names_in c.names_before-wanted.result) c.role_of-role.result c.role_of-role.ensures
     c.kind-kind.ensures c.kinds.ensures c.names_before-wanted.ensures c.names_before-had.ensures
     c.if-not-is_same_kind.ensures (rw c.in-Some.is at c.requires.same_type)
     (rw c.in-Some.is at c.requires.have) c.requires.want in
-    rw c.family_of.ensures (data_ok peer c.in-Data.tag c.role_of-role.result c.in-Some.found.nla
+    rw c.family_of.ensures (data_ok layer c.in-Data.tag c.role_of-role.result c.in-Some.found.nla
     c.in-Data.is both.found)
 
 pub data_unmet-requires-clause-want : goal.data_unmet-requires-clause-want
 data_unmet-requires-clause-want g c =
-    let peer = g.P.LinkPeer in
+    let layer = g.P.DataLayer.families in
     let both =
-    roles peer c.args.have.now c.args.want.now c.in-Some.found c.args.placed.now
+    roles layer c.args.have.now c.args.want.now c.in-Some.found c.args.placed.now
     c.kind-kind.result c.kinds.result (names_in c.names_before-had.result)
     (names_in c.names_before-wanted.result) c.role_of-role.result c.role_of-role.ensures
     c.kind-kind.ensures c.kinds.ensures c.names_before-wanted.ensures c.names_before-had.ensures
     c.if-not-is_same_kind.ensures (rw c.in-Some.is at c.requires.same_type)
     (rw c.in-Some.is at c.requires.have) c.requires.want in
-    rw c.family_of.ensures (data_ok peer c.in-Data.tag c.role_of-role.result
+    rw c.family_of.ensures (data_ok layer c.in-Data.tag c.role_of-role.result
     c.args.placed.now.nla c.in-Data.is both.wanted)
 
 pub data_unmet-requires-in-PortData-clause-have : goal.data_unmet-requires-in-PortData-clause-have
 data_unmet-requires-in-PortData-clause-have g c =
-    let peer = g.P.LinkPeer in
+    let layer = g.P.DataLayer.families in
     let both =
-    roles peer c.args.have.now c.args.want.now c.in-Some.found c.args.placed.now
+    roles layer c.args.have.now c.args.want.now c.in-Some.found c.args.placed.now
     c.kind-kind.result c.kinds.result (names_in c.names_before-had.result)
     (names_in c.names_before-wanted.result) c.role_of-role.result c.role_of-role.ensures
     c.kind-kind.ensures c.kinds.ensures c.names_before-wanted.ensures c.names_before-had.ensures
     c.if-not-is_same_kind.ensures (rw c.in-Some.is at c.requires.same_type)
     (rw c.in-Some.is at c.requires.have) c.requires.want in
-    rw c.port_family_of.ensures (port_ok peer c.in-PortData.tag c.role_of-role.result
+    rw c.port_family_of.ensures (port_ok layer c.in-PortData.tag c.role_of-role.result
     c.in-Some.found.nla c.in-PortData.is both.found)
 
 pub data_unmet-requires-in-PortData-clause-want : goal.data_unmet-requires-in-PortData-clause-want
 data_unmet-requires-in-PortData-clause-want g c =
-    let peer = g.P.LinkPeer in
+    let layer = g.P.DataLayer.families in
     let both =
-    roles peer c.args.have.now c.args.want.now c.in-Some.found c.args.placed.now
+    roles layer c.args.have.now c.args.want.now c.in-Some.found c.args.placed.now
     c.kind-kind.result c.kinds.result (names_in c.names_before-had.result)
     (names_in c.names_before-wanted.result) c.role_of-role.result c.role_of-role.ensures
     c.kind-kind.ensures c.kinds.ensures c.names_before-wanted.ensures c.names_before-had.ensures
     c.if-not-is_same_kind.ensures (rw c.in-Some.is at c.requires.same_type)
     (rw c.in-Some.is at c.requires.have) c.requires.want in
-    rw c.port_family_of.ensures (port_ok peer c.in-PortData.tag c.role_of-role.result
+    rw c.port_family_of.ensures (port_ok layer c.in-PortData.tag c.role_of-role.result
     c.args.placed.now.nla c.in-PortData.is both.wanted)
 
 pub item_unmet-requires-in_default-role : goal.item_unmet-requires-in_default-role
 item_unmet-requires-in_default-role g c =
-    let peer = g.P.LinkPeer in
+    let layer = g.P.DataLayer.families in
     let both =
-    roles peer c.args.have.now c.args.want.now c.in-Some.found c.args.placed.now
+    roles layer c.args.have.now c.args.want.now c.in-Some.found c.args.placed.now
     c.kind-kind.result c.kinds.result (names_in c.names_before-had.result)
     (names_in c.names_before-wanted.result) c.role_of-role.result c.role_of-role.ensures
     c.kind-kind.ensures c.kinds.ensures c.names_before-wanted.ensures c.names_before-had.ensures

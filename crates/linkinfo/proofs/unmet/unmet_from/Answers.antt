@@ -17,7 +17,7 @@ loop-nla-init g c =
     let start = left_at_start c.args.want.now in
     record {
       accepted =
-          rw start (links_accepted g.P.LinkPeer c.args.want.now (omega arith)
+          rw start (links_accepted g.P.DataLayer.families c.args.want.now (omega arith)
           c.requires.want);
       left = rw start refl;
       room = omega (arith, c.new-count.ensures);
@@ -29,7 +29,7 @@ loop-nla-preserved g c =
     let before = c.loop-nla.invariant in
     let want = c.args.want.now in
     let have = c.args.have.now in
-    let peer = g.P.LinkPeer in
+    let layer = g.P.DataLayer.families in
     let front =
     left_at_attribute want c.loop-nla.rest.now c.in-Some-Ok.after.now c.in-Some-Ok.nla _ _ step
     (omega (arith, before.room)) in
@@ -44,20 +44,20 @@ loop-nla-preserved g c =
       accepted = (rw front at before.accepted).1;
       left =
           sym
-          (told_later (covers c.args.start) (counted_unmet peer have want) w _
-          (not_told peer c.args.start have want w is)) ∙ (rw front at before.left);
+          (told_later (covers c.args.start) (counted_unmet layer have want) w _
+          (not_told layer c.args.start have want w is)) ∙ (rw front at before.left);
       room = omega (arith, step.counted, step.room, before.room);
     }
 
 pub placed_unmet-requires-clause-have : goal.placed_unmet-requires-clause-have
 placed_unmet-requires-clause-have g c =
-    let peer = g.P.LinkPeer in
+    let layer = g.P.DataLayer.families in
     let have = c.args.have.now in
-    indexed_holds (λ p. IsAcceptedLink peer (link_at have p)) have c.new-found.result
+    indexed_holds (λ p. IsAcceptedLink layer (link_at have p)) have c.new-found.result
     c.kind-kind.result c.find-last.result (rw c.new-found.ensures refl) c.find-last.ensures.last
-    (last_holds (λ p. IsAcceptedLink peer (link_at have p)) (has_type c.kind-kind.result) None
+    (last_holds (λ p. IsAcceptedLink layer (link_at have p)) (has_type c.kind-kind.result) None
     (attributes_of have)
-    (links_accepted peer have (omega arith) c.requires.have) tt)
+    (links_accepted layer have (omega arith) c.requires.have) tt)
 
 pub placed_unmet-requires-clause-same_type : goal.placed_unmet-requires-clause-same_type
 placed_unmet-requires-clause-same_type g c =
@@ -70,7 +70,7 @@ loop-nla-preserved-in_default-placed_unmet g c =
     let before = c.loop-nla.invariant in
     let want = c.args.want.now in
     let have = c.args.have.now in
-    let peer = g.P.LinkPeer in
+    let layer = g.P.DataLayer.families in
     let front =
     left_at_attribute want c.loop-nla.rest.now c.in-Some-Ok.after.now c.in-Some-Ok.nla _ _ step
     (omega (arith, before.room)) in
@@ -85,13 +85,13 @@ loop-nla-preserved-in_default-placed_unmet g c =
     last_found have c.args.start c.new-found.result w c.kind-kind.result c.new-found.ensures
     c.kind-kind.ensures c.find-last.result c.find-last.ensures.last (and_both _ _ counted).0 in
     let told =
-    told_is peer c.args.start have want w c.find-last.result c.placed_unmet.result counted found
+    told_is layer c.args.start have want w c.find-last.result c.placed_unmet.result counted found
     c.placed_unmet.ensures in
     record {
       accepted = (rw front at before.accepted).1;
       left =
           sym
-          (told_later (covers c.args.start) (counted_unmet peer have want) w _
+          (told_later (covers c.args.start) (counted_unmet layer have want) w _
           (told
           ∙ ap (λ (o : Option Unmet).
           option_map (λ u. let t : UnmetAt = record { offset = w.offset; unmet = u } in t) o)

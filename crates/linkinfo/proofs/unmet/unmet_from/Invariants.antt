@@ -9,10 +9,10 @@ use Rattle.linkinfo.proofs.unmet.unmet_from.Given as goal
 
 abbrev pub invariant-loop-nla : goal.invariant-loop-nla
 invariant-loop-nla g l =
-    let peer = g.P.LinkPeer in
-    let unmet = counted_unmet peer l.have l.want in
+    let layer = g.P.DataLayer.families in
+    let unmet = counted_unmet layer l.have l.want in
     record {
-      accepted : AllByRecursion (λ p. IsAcceptedLink peer (link_at l.want p))
+      accepted : AllByRecursion (λ p. IsAcceptedLink layer (link_at l.want p))
           (left_of l.want l.rest);
       left :
           first_told (covers l.start) unmet (left_of l.want l.rest)

@@ -5,4 +5,4 @@ pub returns-clause-data : goal.returns-clause-data
 returns-clause-data g c = λ name alike s. data_itself name alike s
 
 pub returns-clause-list : goal.returns-clause-list
-returns-clause-list g c = λ s. string_itself g.P.LinkPeer s
+returns-clause-list g c = λ s. string_itself g.P.DataLayer.families s

@@ -5,4 +5,4 @@ pub returns-clause-data : goal.returns-clause-data
 returns-clause-data g c = λ name alike have want. list_met name alike have want
 
 pub returns-clause-list : goal.returns-clause-list
-returns-clause-list g c = λ have want. string_met g.P.LinkPeer have want
+returns-clause-list g c = λ have want. string_met g.P.DataLayer.families have want

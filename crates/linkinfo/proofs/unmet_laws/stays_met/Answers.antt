@@ -8,8 +8,8 @@ returns-clause-data g c = λ name alike have more want same e.
 
 pub returns-clause-list : goal.returns-clause-list
 returns-clause-list g c = λ have more want same e.
-    string_stays g.P.LinkPeer have more want same e
+    string_stays g.P.DataLayer.families have more want same e
 
 pub returns-clause-inside : goal.returns-clause-inside
 returns-clause-inside g c = λ have more want gained e.
-    inside_stays g.P.LinkPeer have more want gained e
+    inside_stays g.P.DataLayer.families have more want gained e

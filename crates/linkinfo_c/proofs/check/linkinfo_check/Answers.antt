@@ -1,6 +1,6 @@
 use Rattle.std.proofs.Common.{ap, subst, sym, ◌∙◌}
 use Rattle.linkinfo.specs.Strings.{reading}
-use Rattle.linkinfo_data.specs.BytesPeer.{bytes_peer}
+use Rattle.linkinfo_data.specs.BytesLayer.{bytes_layer}
 use Rattle.linkinfo_c.specs.Causes.{IsReturnedCode}
 use Rattle.linkinfo_c.specs.Errors.{error_or_none}
 use Rattle.linkinfo_c.specs.declared.error.LinkinfoError.{LinkinfoError}
@@ -12,4 +12,4 @@ returns-clause-cause c =
     let s = c.args.bytes.now in
     subst (λ (z : LinkinfoError). IsReturnedCode z.cause)
     (sym (c.error_or_none.ensures ∙ ap error_or_none c.check.ensures.answer))
-    (verdict_code (reading bytes_peer s) (reading_errors s))
+    (verdict_code (reading bytes_layer s) (reading_errors s))

@@ -1,7 +1,7 @@
 use Rattle.std.proofs.Common.{ap, subst, sym, ◌∙◌}
 use Rattle.linkinfo.specs.Difference.{strings_difference}
 use Rattle.linkinfo.specs.Strings.{reading}
-use Rattle.linkinfo_data.specs.BytesPeer.{bytes_peer}
+use Rattle.linkinfo_data.specs.BytesLayer.{bytes_layer}
 use Rattle.linkinfo_c.specs.Causes.{IsReturnedCode}
 use Rattle.linkinfo_c.specs.Difference.{difference_record}
 use Rattle.linkinfo_c.specs.declared.difference.LinkinfoDifference.{LinkinfoDifference}
@@ -14,5 +14,5 @@ returns-clause-cause c =
     let b = c.args.b.now in
     subst (λ (z : LinkinfoDifference). IsReturnedCode z.error.cause)
     (sym (c.difference_record.ensures ∙ ap difference_record c.first_difference.ensures.answer))
-    (difference_code (reading bytes_peer a) (reading bytes_peer b)
-    (strings_difference bytes_peer a b) (reading_errors a) (reading_errors b))
+    (difference_code (reading bytes_layer a) (reading bytes_layer b)
+    (strings_difference bytes_layer a b) (reading_errors a) (reading_errors b))

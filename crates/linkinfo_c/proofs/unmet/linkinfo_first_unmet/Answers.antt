@@ -1,7 +1,7 @@
 use Rattle.std.proofs.Common.{ap, subst, sym, ◌∙◌}
 use Rattle.linkinfo.specs.Strings.{reading}
 use Rattle.linkinfo.specs.Unmet.{strings_unmet}
-use Rattle.linkinfo_data.specs.BytesPeer.{bytes_peer}
+use Rattle.linkinfo_data.specs.BytesLayer.{bytes_layer}
 use Rattle.linkinfo_c.specs.Causes.{IsReturnedCode}
 use Rattle.linkinfo_c.specs.Unmet.{unmet_record}
 use Rattle.linkinfo_c.specs.declared.unmet.LinkinfoUnmet.{LinkinfoUnmet}
@@ -14,5 +14,5 @@ returns-clause-cause c =
     let want = c.args.want.now in
     subst (λ (z : LinkinfoUnmet). IsReturnedCode z.error.cause)
     (sym (c.unmet_record.ensures ∙ ap unmet_record c.first_unmet.ensures.answer))
-    (unmet_code (reading bytes_peer have) (reading bytes_peer want)
-    (strings_unmet bytes_peer have want) (reading_errors have) (reading_errors want))
+    (unmet_code (reading bytes_layer have) (reading bytes_layer want)
+    (strings_unmet bytes_layer have want) (reading_errors have) (reading_errors want))

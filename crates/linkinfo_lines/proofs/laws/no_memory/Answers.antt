@@ -3,7 +3,7 @@ use Rattle.std.specs.Prelude.{◌≢◌}
 use Rattle.nla_frame.specs.Answers.{verdict}
 use Rattle.nla_frame.specs.Error.{memory_error}
 use Rattle.nla_frame.specs.declared.error.DecodeError.{DecodeError}
-use Rattle.linkinfo_data.specs.BytesPeer.{bytes_peer}
+use Rattle.linkinfo_data.specs.BytesLayer.{bytes_layer}
 use Rattle.linkinfo.specs.Comparing.{same_answer}
 use Rattle.linkinfo.specs.Strings.{alike_strings, reading}
 use Rattle.linkinfo_lines.proofs.laws.no_memory.Goals as goal
@@ -26,12 +26,12 @@ same_no_memory (Ok x) (Err e) alike never other h = other (bad_same e memory_err
 same_no_memory (Ok x) (Ok y) alike never other h = absurd cc
 
 pub returns-clause-check : goal.returns-clause-check
-returns-clause-check c = λ s. verdict_no_memory (reading bytes_peer s) (c.no_memory.ensures s)
+returns-clause-check c = λ s. verdict_no_memory (reading bytes_layer s) (c.no_memory.ensures s)
 
 pub returns-clause-canon : goal.returns-clause-canon
 returns-clause-canon c = λ s. c.no_memory.ensures s
 
 pub returns-clause-same : goal.returns-clause-same
 returns-clause-same c = λ a b.
-    same_no_memory (reading bytes_peer a) (reading bytes_peer b) (alike_strings bytes_peer a b)
+    same_no_memory (reading bytes_layer a) (reading bytes_layer b) (alike_strings bytes_layer a b)
     (c.no_memory.ensures a) (c.no_memory.ensures b)

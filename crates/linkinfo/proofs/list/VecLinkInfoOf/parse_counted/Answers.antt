@@ -1,11 +1,11 @@
 -- Each clause is that of `read_rest`, from the beginning of the bytes; the count is a sum.
 use Rattle.std.proofs.Common.{◌∙◌, ap, arith, sym, List, Result, Ok}
 use Rattle.nla_frame.specs.declared.error.DecodeError.{DecodeError}
-use Rattle.linkinfo.specs.declared.link_info.LinkInfoOf.{LinkInfoOf}
+use Rattle.linkinfo.specs.Layered.{LinkOf}
 use Rattle.linkinfo.proofs.list.VecLinkInfoOf.parse_counted.Goals as goal
 use Rattle.linkinfo.specs.Strings.{headers_of_string, reading, reading_needs_memory}
 
-abbrev read : {P : Type 0} → List (LinkInfoOf P) → Result (List (LinkInfoOf P)) DecodeError
+abbrev read : {L : Types} → List (LinkOf L) → Result (List (LinkOf L)) DecodeError
 read items = Ok items
 
 pub returns-in-Ok-clause-answer : goal.returns-in-Ok-clause-answer

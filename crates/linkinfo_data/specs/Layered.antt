@@ -1,0 +1,13 @@
+-- Data and port data over a layer, by the types that it supplies.
+use Rattle.linkinfo_table.specs.Layers.{Types}
+use Rattle.linkinfo_data.specs.declared.info_data.InfoDataOf.{InfoDataOf}
+use Rattle.linkinfo_data.specs.declared.port_data.InfoPortDataOf.{InfoPortDataOf}
+
+abbrev pub DataOf : Types → Type 0
+DataOf t =
+    InfoDataOf t.Layer t.Peer t.Bond t.Bridge t.Vlan t.Can t.Hsr t.Dsa t.Tun t.BondPort t.BridgePort
+
+abbrev pub PortDataOf : Types → Type 0
+PortDataOf t =
+    InfoPortDataOf t.Layer t.Peer t.Bond t.Bridge t.Vlan t.Can t.Hsr t.Dsa t.Tun t.BondPort
+    t.BridgePort

@@ -1,0 +1,259 @@
+//! Layers as data sees them: data and port data parsed, asked about and written by family, whatever
+//! the families are that the layer supplies.
+
+ghost use Rattle.std.specs.Prelude.{◌≡◌, ◌+◌, ◌/◌, ◌<◌, ◌^◌, length};
+ghost use Rattle.nla_frame.specs.Writing.{Writes};
+ghost use Rattle.linkinfo_table.proofs.Layering.{supplied_family};
+ghost use Rattle.linkinfo_table.specs.Calls.{Reads};
+ghost use Rattle.linkinfo_table.specs.Layers.{Families, IsLayer};
+ghost use Rattle.linkinfo_data.specs.Asking.{facts_of};
+ghost use Rattle.linkinfo_data.specs.Data.{data_of};
+ghost use Rattle.linkinfo_data.specs.Encoding.{HasRoom, IsFitLen};
+ghost use Rattle.linkinfo_data.specs.InfoData.{data_payload};
+ghost use Rattle.linkinfo_data.specs.Listing.{family_in};
+ghost use Rattle.linkinfo_data.specs.PortData.{port_data_of, port_data_payload};
+
+use crate::ask::Ask;
+use crate::calls::{ask, read};
+use crate::data::DataFamily;
+use crate::encode::{FitLen, Write};
+use crate::info_data::InfoDataOf;
+use crate::payload_family::PayloadFamily;
+use crate::port_data::{InfoPortDataOf, PortFamily};
+use linkinfo_devices::InfoVrfPort;
+use linkinfo_peers::InfoTeamPort;
+use linkinfo_table::{LayerFamilies, LinkFamily, LinkLayer};
+use nla_frame::{Bytes, DecodeError, Family, HeaderCount};
+use std::alloc::Global;
+
+/// A layer, with the calls on data and port data of its families. Every `LinkLayer` that is `Eq`, as
+/// peers are, implements it, and no other type does.
+///
+/// Contracts of generic code speak of `families`, and know of them only that they are lawful.
+pub trait DataLayer: LinkLayer + Eq + Sized {
+    /// What the peer and the families of the layer define.
+    ghost families: { Families (record {
+      Layer = Self;
+      Peer = Self.Peer;
+      Bond = Self.Bond;
+      Bridge = Self.Bridge;
+      Vlan = Self.Vlan;
+      Can = Self.Can;
+      Hsr = Self.Hsr;
+      Dsa = Self.Dsa;
+      Tun = Self.Tun;
+      BondPort = Self.BondPort;
+      BridgePort = Self.BridgePort;
+    }) };
+
+    /// The name of the family of the attributes in data of a family, or `None` if it is no list.
+    fn data_listing(family: DataFamily) -> Option<Family>
+        ensures { result ≡ family_in (data_of families family).listing };
+
+    /// Parses a payload as data of a family, as `PayloadFamily::read` does.
+    fn read_data(
+        family: DataFamily,
+        alloc: Global,
+        payload: &[u8],
+        count: &mut HeaderCount,
+    ) -> Result<InfoDataOf<Self>, DecodeError>
+        requires { count.old + length payload.now / 4 < 2 ^ 64 }
+        ensures { Reads (λ value. value) result ((data_of families family).means payload.now)
+            ((data_of families family).needs_memory payload.now)
+            ((data_of families family).headers payload.now)
+            (length payload.now) count.old count.new };
+
+    /// Makes a call that returns no parsed value, for payloads of data of a family. Does not
+    /// allocate.
+    fn ask_data<Q: Ask>(
+        family: DataFamily,
+        question: Q,
+        count: &mut HeaderCount,
+        buffer: &mut [u8],
+    ) -> Q::Answer
+        requires { Q.ready (facts_of (data_of families family)) question count.old buffer.old }
+        ensures { Q.answered (facts_of (data_of families family)) question count.old count.new
+            buffer.old buffer.new result };
+
+    /// Returns the length of the canonical payload of data, or `None` if it does not fit.
+    fn data_fit_len(value: &InfoDataOf<Self>) -> Option<usize>
+        ensures { IsFitLen (data_payload families value.now) result };
+
+    /// Writes the canonical payload of data to the front of the buffer, and returns its length.
+    fn write_data(value: &InfoDataOf<Self>, buffer: &mut [u8]) -> usize
+        requires { HasRoom (data_payload families value.now) buffer.old }
+        ensures { Writes (data_payload families value.now) buffer.old buffer.new result };
+
+    /// The name of the family of the attributes in port data of a family, or `None` if it is no list.
+    fn port_data_listing(family: PortFamily) -> Option<Family>
+        ensures { result ≡ family_in (port_data_of families family).listing };
+
+    /// Parses a payload as port data of a family, as `PayloadFamily::read` does.
+    fn read_port_data(
+        family: PortFamily,
+        alloc: Global,
+        payload: &[u8],
+        count: &mut HeaderCount,
+    ) -> Result<InfoPortDataOf<Self>, DecodeError>
+        requires { count.old + length payload.now / 4 < 2 ^ 64 }
+        ensures { Reads (λ value. value) result ((port_data_of families family).means payload.now)
+            ((port_data_of families family).needs_memory payload.now)
+            ((port_data_of families family).headers payload.now)
+            (length payload.now) count.old count.new };
+
+    /// Makes a call that returns no parsed value, for payloads of port data of a family. Does not
+    /// allocate.
+    fn ask_port_data<Q: Ask>(
+        family: PortFamily,
+        question: Q,
+        count: &mut HeaderCount,
+        buffer: &mut [u8],
+    ) -> Q::Answer
+        requires { Q.ready (facts_of (port_data_of families family)) question count.old buffer.old }
+        ensures { Q.answered (facts_of (port_data_of families family)) question count.old count.new
+            buffer.old buffer.new result };
+
+    /// Returns the length of the canonical payload of port data, or `None` if it does not fit.
+    fn port_data_fit_len(value: &InfoPortDataOf<Self>) -> Option<usize>
+        ensures { IsFitLen (port_data_payload families value.now) result };
+
+    /// Writes the canonical payload of port data to the front of the buffer, and returns its length.
+    fn write_port_data(value: &InfoPortDataOf<Self>, buffer: &mut [u8]) -> usize
+        requires { HasRoom (port_data_payload families value.now) buffer.old }
+        ensures { Writes (port_data_payload families value.now) buffer.old buffer.new result };
+
+    ghost is_layer: { IsLayer families };
+}
+
+/// Matches a family of ports, and expands `$call!`, of `calls`, for its data.
+macro_rules! of_port {
+    ($family:expr, $call:ident $given:tt) => {
+        match $family {
+            PortFamily::Bond => $call!(list(InfoPortDataOf::BondPort, L::BondPort, ()) $given),
+            PortFamily::Bridge => $call!(list(InfoPortDataOf::BridgePort, L::BridgePort, ()) $given),
+            PortFamily::Vrf => $call!(list(InfoPortDataOf::VrfPort, InfoVrfPort, ()) $given),
+            PortFamily::Team => $call!(list(InfoPortDataOf::TeamPort, InfoTeamPort, ()) $given),
+            PortFamily::Raw => $call!(bytes(InfoPortDataOf::Other) $given),
+        }
+    };
+}
+
+impl<L: LinkLayer + Eq> DataLayer for L {
+    ghost families = { ⟦<L as LayerFamilies>⟧.families };
+
+    ghost is_layer = { record {
+      peer = L.Peer.LinkPeer.lawful;
+      bond = supplied_family L.Bond.LinkFamily.own L.Bond.Nla.attribute
+          L.Bond.looked_up L.Bond.LinkFamily.lawful tt L.one_type.bond_type;
+      bridge = supplied_family L.Bridge.LinkFamily.own L.Bridge.Nla.attribute
+          L.Bridge.looked_up L.Bridge.LinkFamily.lawful tt L.one_type.bridge_type;
+      vlan = supplied_family L.Vlan.LinkFamily.own L.Vlan.Nla.attribute
+          L.Vlan.looked_up L.Vlan.LinkFamily.lawful tt L.one_type.vlan_type;
+      can = supplied_family L.Can.LinkFamily.own L.Can.Nla.attribute
+          L.Can.looked_up L.Can.LinkFamily.lawful tt L.one_type.can_type;
+      hsr = supplied_family L.Hsr.LinkFamily.own L.Hsr.Nla.attribute
+          L.Hsr.looked_up L.Hsr.LinkFamily.lawful tt L.one_type.hsr_type;
+      dsa = supplied_family L.Dsa.LinkFamily.own L.Dsa.Nla.attribute
+          L.Dsa.looked_up L.Dsa.LinkFamily.lawful tt L.one_type.dsa_type;
+      tun = supplied_family L.Tun.LinkFamily.own L.Tun.Nla.attribute
+          L.Tun.looked_up L.Tun.LinkFamily.lawful tt L.one_type.tun_type;
+      bond_port = supplied_family L.BondPort.LinkFamily.own L.BondPort.Nla.attribute
+          L.BondPort.looked_up L.BondPort.LinkFamily.lawful tt L.one_type.bond_port_type;
+      bridge_port = supplied_family L.BridgePort.LinkFamily.own L.BridgePort.Nla.attribute
+          L.BridgePort.looked_up L.BridgePort.LinkFamily.lawful tt L.one_type.bridge_port_type;
+    } };
+
+    fn data_listing(family: DataFamily) -> Option<Family> {
+        match family {
+            DataFamily::Lower(family) => PayloadFamily::<InfoDataOf<L>>::listing(family),
+            DataFamily::Device(family) => PayloadFamily::<InfoDataOf<L>>::listing(family),
+            DataFamily::Tunnel(family) => PayloadFamily::<InfoDataOf<L>>::listing(family),
+            DataFamily::Peered(family) => PayloadFamily::<InfoDataOf<L>>::listing(family),
+            DataFamily::Raw => None,
+        }
+    }
+
+    fn read_data(
+        family: DataFamily,
+        alloc: Global,
+        payload: &[u8],
+        count: &mut HeaderCount,
+    ) -> Result<InfoDataOf<L>, DecodeError> {
+        match family {
+            DataFamily::Lower(family) => family.read(alloc, payload, count),
+            DataFamily::Device(family) => family.read(alloc, payload, count),
+            DataFamily::Tunnel(family) => family.read(alloc, payload, count),
+            DataFamily::Peered(family) => family.read(alloc, payload, count),
+            DataFamily::Raw => Ok(InfoDataOf::Other(Bytes::copy_of(alloc, payload)?)),
+        }
+    }
+
+    #[inline(always)]
+    fn ask_data<Q: Ask>(
+        family: DataFamily,
+        question: Q,
+        count: &mut HeaderCount,
+        buffer: &mut [u8],
+    ) -> Q::Answer {
+        match family {
+            DataFamily::Lower(family) => PayloadFamily::<InfoDataOf<L>>::ask(
+                family, question, count, buffer,
+            ),
+            DataFamily::Device(family) => PayloadFamily::<InfoDataOf<L>>::ask(
+                family, question, count, buffer,
+            ),
+            DataFamily::Tunnel(family) => PayloadFamily::<InfoDataOf<L>>::ask(
+                family, question, count, buffer,
+            ),
+            DataFamily::Peered(family) => PayloadFamily::<InfoDataOf<L>>::ask(
+                family, question, count, buffer,
+            ),
+            DataFamily::Raw => question.of_bytes(count, buffer),
+        }
+    }
+
+    fn data_fit_len(value: &InfoDataOf<L>) -> Option<usize> {
+        value.encode(FitLen, &mut [])
+    }
+
+    fn write_data(value: &InfoDataOf<L>, buffer: &mut [u8]) -> usize {
+        value.encode(Write, buffer)
+    }
+
+    fn port_data_listing(family: PortFamily) -> Option<Family> {
+        match family {
+            PortFamily::Bond => Some(<L::BondPort as LinkFamily>::FAMILY),
+            PortFamily::Bridge => Some(<L::BridgePort as LinkFamily>::FAMILY),
+            PortFamily::Vrf => Some(Family::Vrf),
+            PortFamily::Team => Some(Family::TeamPort),
+            PortFamily::Raw => None,
+        }
+    }
+
+    fn read_port_data(
+        family: PortFamily,
+        alloc: Global,
+        payload: &[u8],
+        count: &mut HeaderCount,
+    ) -> Result<InfoPortDataOf<L>, DecodeError> {
+        Ok(of_port!(family, read(alloc, payload, count)))
+    }
+
+    #[inline(always)]
+    fn ask_port_data<Q: Ask>(
+        family: PortFamily,
+        question: Q,
+        count: &mut HeaderCount,
+        buffer: &mut [u8],
+    ) -> Q::Answer {
+        of_port!(family, ask(question, count, buffer))
+    }
+
+    fn port_data_fit_len(value: &InfoPortDataOf<L>) -> Option<usize> {
+        value.encode(FitLen, &mut [])
+    }
+
+    fn write_port_data(value: &InfoPortDataOf<L>, buffer: &mut [u8]) -> usize {
+        value.encode(Write, buffer)
+    }
+}

@@ -1,0 +1,55 @@
+//! The layer whose families have types.
+
+ghost use Rattle.linkinfo_table.specs.OneType.{rows_type};
+
+use crate::vlan::InfoVlan;
+use linkinfo_table::lower::{
+    InfoBond, InfoBondPort, InfoBridge, InfoBridgePort, InfoCan, InfoDsa, InfoHsr,
+};
+use linkinfo_table::opaque::TUN;
+use linkinfo_table::{LinkLayer, LinkPeer, Opaque};
+use std::marker::PhantomData;
+
+/// The layer whose peers are `P`, and whose attributes of `vlan` links have types. Those of
+/// `bond`, `bridge`, `can`, `hsr`, `dsa` and `tun` links, and of ports of bonds and bridges, are
+/// opaque.
+///
+/// A list of links with such attributes is `VecLinkInfoOf<Typed<Bytes>>`.
+#[derive(Clone, Debug, PartialEq, Eq)]
+pub struct Typed<P> {
+    of: PhantomData<P>,
+}
+
+impl<P: LinkPeer> LinkLayer for Typed<P> {
+    type Peer = P;
+
+    type Bond = InfoBond;
+
+    type Bridge = InfoBridge;
+
+    type Vlan = InfoVlan;
+
+    type Can = InfoCan;
+
+    type Hsr = InfoHsr;
+
+    type Dsa = InfoDsa;
+
+    type Tun = Opaque<TUN>;
+
+    type BondPort = InfoBondPort;
+
+    type BridgePort = InfoBridgePort;
+
+    ghost one_type = { record {
+      bond_type = rows_type _;
+      bridge_type = rows_type _;
+      vlan_type = rows_type _;
+      can_type = rows_type _;
+      hsr_type = rows_type _;
+      dsa_type = rows_type _;
+      tun_type = rows_type _;
+      bond_port_type = rows_type _;
+      bridge_port_type = rows_type _;
+    } };
+}

@@ -1,0 +1,217 @@
+// @generated from crates/linkinfo_data/src/layer.rt by rust/translate/run.
+
+//! Layers as data sees them: data and port data parsed, asked about and written by family, whatever
+//! the families are that the layer supplies.
+
+use crate::layers::data::ask::Ask;
+use crate::layers::data::calls::{ask, read};
+use crate::layers::data::data::DataFamily;
+use crate::layers::data::encode::{FitLen, Write};
+use crate::layers::data::info_data::InfoDataOf;
+use crate::layers::data::payload_family::PayloadFamily;
+use crate::layers::data::port_data::{InfoPortDataOf, PortFamily};
+use crate::layers::devices::InfoVrfPort;
+use crate::layers::nla_frame::{Bytes, DecodeError, Family, HeaderCount};
+use crate::layers::peers::InfoTeamPort;
+use crate::layers::table::{LinkFamily, LinkLayer};
+
+/// A layer, with the calls on data and port data of its families. Every [`LinkLayer`] that is `Eq`,
+/// as peers are, implements it, and no other type does.
+///
+/// Contracts of generic code speak of `families`, and know of them only that they are lawful.
+///
+/// [`LinkLayer`]: crate::layers::table::LinkLayer
+pub trait DataLayer: LinkLayer + Eq + Sized {
+    /// The name of the family of the attributes in data of a family, or `None` if it is no list.
+    fn data_listing(family: DataFamily) -> Option<Family>;
+
+    /// Parses a payload as data of a family, as [`PayloadFamily::read`] does.
+    ///
+    /// # Panics
+    ///
+    /// May panic where a condition of the caller that is named here does not hold. Where it does
+    /// not panic then, the result has no meaning.
+    ///
+    /// [`PayloadFamily::read`]: crate::layers::data::PayloadFamily::read
+    fn read_data(
+        family: DataFamily,
+        payload: &[u8],
+        count: &mut HeaderCount,
+    ) -> Result<InfoDataOf<Self>, DecodeError>;
+
+    /// Makes a call that returns no parsed value, for payloads of data of a family. Does not
+    /// allocate.
+    ///
+    /// # Panics
+    ///
+    /// May panic where a condition of the caller that is named here does not hold. Where it does
+    /// not panic then, the result has no meaning.
+    fn ask_data<Q: Ask>(
+        family: DataFamily,
+        question: Q,
+        count: &mut HeaderCount,
+        buffer: &mut [u8],
+    ) -> Q::Answer;
+
+    /// Returns the length of the canonical payload of data, or `None` if it does not fit.
+    fn data_fit_len(value: &InfoDataOf<Self>) -> Option<usize>;
+
+    /// Writes the canonical payload of data to the front of the buffer, and returns its length.
+    ///
+    /// # Panics
+    ///
+    /// May panic where a condition of the caller that is named here does not hold. Where it does
+    /// not panic then, the result has no meaning.
+    fn write_data(value: &InfoDataOf<Self>, buffer: &mut [u8]) -> usize;
+
+    /// The name of the family of the attributes in port data of a family, or `None` if it is no
+    /// list.
+    fn port_data_listing(family: PortFamily) -> Option<Family>;
+
+    /// Parses a payload as port data of a family, as [`PayloadFamily::read`] does.
+    ///
+    /// # Panics
+    ///
+    /// May panic where a condition of the caller that is named here does not hold. Where it does
+    /// not panic then, the result has no meaning.
+    ///
+    /// [`PayloadFamily::read`]: crate::layers::data::PayloadFamily::read
+    fn read_port_data(
+        family: PortFamily,
+        payload: &[u8],
+        count: &mut HeaderCount,
+    ) -> Result<InfoPortDataOf<Self>, DecodeError>;
+
+    /// Makes a call that returns no parsed value, for payloads of port data of a family. Does not
+    /// allocate.
+    ///
+    /// # Panics
+    ///
+    /// May panic where a condition of the caller that is named here does not hold. Where it does
+    /// not panic then, the result has no meaning.
+    fn ask_port_data<Q: Ask>(
+        family: PortFamily,
+        question: Q,
+        count: &mut HeaderCount,
+        buffer: &mut [u8],
+    ) -> Q::Answer;
+
+    /// Returns the length of the canonical payload of port data, or `None` if it does not fit.
+    fn port_data_fit_len(value: &InfoPortDataOf<Self>) -> Option<usize>;
+
+    /// Writes the canonical payload of port data to the front of the buffer, and returns its
+    /// length.
+    ///
+    /// # Panics
+    ///
+    /// May panic where a condition of the caller that is named here does not hold. Where it does
+    /// not panic then, the result has no meaning.
+    fn write_port_data(value: &InfoPortDataOf<Self>, buffer: &mut [u8]) -> usize;
+}
+
+/// Matches a family of ports, and expands `$call!`, of `calls`, for its data.
+macro_rules! of_port {
+    ($family:expr, $call:ident $given:tt) => {
+        match $family {
+            PortFamily::Bond => $call!(list(InfoPortDataOf::BondPort, L::BondPort, ()) $given),
+            PortFamily::Bridge => $call!(list(InfoPortDataOf::BridgePort, L::BridgePort, ()) $given),
+            PortFamily::Vrf => $call!(list(InfoPortDataOf::VrfPort, InfoVrfPort, ()) $given),
+            PortFamily::Team => $call!(list(InfoPortDataOf::TeamPort, InfoTeamPort, ()) $given),
+            PortFamily::Raw => $call!(bytes(InfoPortDataOf::Other) $given),
+        }
+    };
+}
+
+impl<L: LinkLayer + Eq> DataLayer for L {
+    fn data_listing(family: DataFamily) -> Option<Family> {
+        match family {
+            DataFamily::Lower(family) => PayloadFamily::<InfoDataOf<L>>::listing(family),
+            DataFamily::Device(family) => PayloadFamily::<InfoDataOf<L>>::listing(family),
+            DataFamily::Tunnel(family) => PayloadFamily::<InfoDataOf<L>>::listing(family),
+            DataFamily::Peered(family) => PayloadFamily::<InfoDataOf<L>>::listing(family),
+            DataFamily::Raw => None,
+        }
+    }
+
+    fn read_data(
+        family: DataFamily,
+        payload: &[u8],
+        count: &mut HeaderCount,
+    ) -> Result<InfoDataOf<L>, DecodeError> {
+        match family {
+            DataFamily::Lower(family) => family.read(payload, count),
+            DataFamily::Device(family) => family.read(payload, count),
+            DataFamily::Tunnel(family) => family.read(payload, count),
+            DataFamily::Peered(family) => family.read(payload, count),
+            DataFamily::Raw => Ok(InfoDataOf::Other(Bytes::copy_of(payload)?)),
+        }
+    }
+
+    #[inline(always)]
+    fn ask_data<Q: Ask>(
+        family: DataFamily,
+        question: Q,
+        count: &mut HeaderCount,
+        buffer: &mut [u8],
+    ) -> Q::Answer {
+        match family {
+            DataFamily::Lower(family) => {
+                PayloadFamily::<InfoDataOf<L>>::ask(family, question, count, buffer)
+            }
+            DataFamily::Device(family) => {
+                PayloadFamily::<InfoDataOf<L>>::ask(family, question, count, buffer)
+            }
+            DataFamily::Tunnel(family) => {
+                PayloadFamily::<InfoDataOf<L>>::ask(family, question, count, buffer)
+            }
+            DataFamily::Peered(family) => {
+                PayloadFamily::<InfoDataOf<L>>::ask(family, question, count, buffer)
+            }
+            DataFamily::Raw => question.of_bytes(count, buffer),
+        }
+    }
+
+    fn data_fit_len(value: &InfoDataOf<L>) -> Option<usize> {
+        value.encode(FitLen, &mut [])
+    }
+
+    fn write_data(value: &InfoDataOf<L>, buffer: &mut [u8]) -> usize {
+        value.encode(Write, buffer)
+    }
+
+    fn port_data_listing(family: PortFamily) -> Option<Family> {
+        match family {
+            PortFamily::Bond => Some(<L::BondPort as LinkFamily>::FAMILY),
+            PortFamily::Bridge => Some(<L::BridgePort as LinkFamily>::FAMILY),
+            PortFamily::Vrf => Some(Family::Vrf),
+            PortFamily::Team => Some(Family::TeamPort),
+            PortFamily::Raw => None,
+        }
+    }
+
+    fn read_port_data(
+        family: PortFamily,
+        payload: &[u8],
+        count: &mut HeaderCount,
+    ) -> Result<InfoPortDataOf<L>, DecodeError> {
+        Ok(of_port!(family, read(payload, count)))
+    }
+
+    #[inline(always)]
+    fn ask_port_data<Q: Ask>(
+        family: PortFamily,
+        question: Q,
+        count: &mut HeaderCount,
+        buffer: &mut [u8],
+    ) -> Q::Answer {
+        of_port!(family, ask(question, count, buffer))
+    }
+
+    fn port_data_fit_len(value: &InfoPortDataOf<L>) -> Option<usize> {
+        value.encode(FitLen, &mut [])
+    }
+
+    fn write_port_data(value: &InfoPortDataOf<L>, buffer: &mut [u8]) -> usize {
+        value.encode(Write, buffer)
+    }
+}

@@ -1,0 +1,79 @@
+// @generated from crates/linkinfo_table/src/layer.rt by rust/translate/run.
+
+//! Layers: what other layers supply to link info, as one type.
+
+use crate::layers::nla_frame::ExactEq;
+use crate::layers::table::family::LinkFamily;
+use crate::layers::table::lower::{
+    InfoBond, InfoBondPort, InfoBridge, InfoBridgePort, InfoCan, InfoDsa, InfoHsr, InfoVlan,
+};
+use crate::layers::table::opaque::{Opaque, TUN};
+use crate::layers::table::peer::LinkPeer;
+use core::fmt::Debug;
+
+/// What other layers supply to link info: the type of peers, and the family of the attributes of
+/// each kind of link and of port whose attributes are theirs.
+///
+/// Every [`LinkPeer`] is a layer, whose peers are of that type, and whose families are opaque.
+///
+/// [`LinkPeer`]: crate::layers::table::LinkPeer
+pub trait LinkLayer {
+    /// The peer of a veth, vxcan or netkit link.
+    type Peer: LinkPeer;
+
+    /// Attributes of `bond` links (`IFLA_BOND_*`).
+    type Bond: LinkFamily<Context = ()> + Clone + Debug + Eq + ExactEq;
+
+    /// Attributes of `bridge` links (`IFLA_BR_*`).
+    type Bridge: LinkFamily<Context = ()> + Clone + Debug + Eq + ExactEq;
+
+    /// Attributes of `vlan` links (`IFLA_VLAN_*`).
+    type Vlan: LinkFamily<Context = ()> + Clone + Debug + Eq + ExactEq;
+
+    /// Attributes of `can` links (`IFLA_CAN_*`).
+    type Can: LinkFamily<Context = ()> + Clone + Debug + Eq + ExactEq;
+
+    /// Attributes of `hsr` links (`IFLA_HSR_*`).
+    type Hsr: LinkFamily<Context = ()> + Clone + Debug + Eq + ExactEq;
+
+    /// Attributes of `dsa` links (`IFLA_DSA_*`).
+    type Dsa: LinkFamily<Context = ()> + Clone + Debug + Eq + ExactEq;
+
+    /// Attributes of `tun` links (`IFLA_TUN_*`).
+    type Tun: LinkFamily<Context = ()> + Clone + Debug + Eq + ExactEq;
+
+    /// Attributes of ports of a `bond` link (`IFLA_BOND_SLAVE_*`).
+    type BondPort: LinkFamily<Context = ()> + Clone + Debug + Eq + ExactEq;
+
+    /// Attributes of ports of a `bridge` link (`IFLA_BRPORT_*`).
+    type BridgePort: LinkFamily<Context = ()> + Clone + Debug + Eq + ExactEq;
+}
+
+/// The layer of a peer, whose families are opaque: each attribute is kept verbatim.
+impl<P: LinkPeer> LinkLayer for P {
+    type Peer = P;
+
+    type Bond = InfoBond;
+
+    type Bridge = InfoBridge;
+
+    type Vlan = InfoVlan;
+
+    type Can = InfoCan;
+
+    type Hsr = InfoHsr;
+
+    type Dsa = InfoDsa;
+
+    type Tun = Opaque<TUN>;
+
+    type BondPort = InfoBondPort;
+
+    type BridgePort = InfoBridgePort;
+}
+
+/// All that the peer and the families of a layer define, in one record. Every layer implements it,
+/// and no other type does.
+pub trait LayerFamilies: LinkLayer {}
+
+impl<L: LinkLayer> LayerFamilies for L {}
