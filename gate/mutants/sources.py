@@ -41,8 +41,8 @@ def closing(text, at):
 
 def block_name(header):
     """The name of an impl or a trait in the paths of its functions: `impl From<u32> for AmtMode`
-    is AmtModeFromU32, and `impl<P> From<Vec<Of<P>>> for List<P>` is ListFrom. The unit and pairs are
-    Unit and Tuple2."""
+    is AmtModeFromU32, and `impl<P> From<Vec<Of<P>>> for List<P>` is ListFrom. The unit is Unit, and
+    a pair Tuple2."""
     header = re.sub(r"^(\s*(pub(\([^)]*\))? )?(unsafe )?)", "", header)
     if header.startswith("trait"):
         return re.match(r"trait (\w+)", header)[1]

@@ -5,3 +5,4 @@ pub mod Vlan
 pub mod VlanConditions
 -- End: written by tables/generate.
 pub mod Conditions
+pub mod NestedLists
