@@ -3,7 +3,7 @@
 use crate::layers::messages::{Capture, LinkMessages};
 use crate::layers::nla_frame::NlasIterator;
 use crate::{
-    AllocError, Bytes, DataLayer, DecodeError, ErrorIn, InfoDataOf, InfoKind, InfoPortData,
+    AllocError, Bytes, DataLayer, DecodeError, ErrorIn, InfoDataOf, InfoKind, InfoPortDataOf,
     InfoPortKind, LinkInfoOf, LinkInfoWalk, LinkLayer, Nlas, Text, ToVecError, VecLinkInfoOf,
 };
 use alloc::string::String;
@@ -118,7 +118,7 @@ last_attributes! {
 
     /// Returns the data of the port: the last `IFLA_INFO_SLAVE_DATA`, as the kernel takes the last
     /// attribute of a type. `None` if the list has none.
-    port_data: PortData(InfoPortData);
+    port_data: PortData(InfoPortDataOf<P>);
 }
 
 impl<P: LinkLayer> Deref for VecLinkInfoOf<P> {

@@ -122,6 +122,7 @@ pub mod layers;
 #[cfg(feature = "netlink-packet-core")]
 mod netlink_packet_core;
 mod operators;
+mod orders;
 
 // The list, its data, and what they own.
 #[doc(inline)]

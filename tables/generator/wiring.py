@@ -13,6 +13,7 @@ def group_row(group):
     files = re.split("::|_", crate)[-1]
     return {"Group": group, "group": group.lower(), "of": crate, "groups": files,
             "specs": f"{files.removesuffix('s').capitalize()}Data",
+            "given": "t" if group in ("Device", "Tunnel") else "layer",
             "flagged": "h " * (group == "Tunnel")}
 
 
@@ -119,6 +120,8 @@ def outputs(tables):
     found = of_kinds(tables, kinds.read(tables.root, "ports"), {row["data"]: row for row in rows})
     found |= {"data": rows, "tables": unique(listed_in, "declared"), "plain": listed_in,
               "flat": [row for row in ordered if not row["form"]], "Tunnel": groups[2],
+              "asked": [{**row, "goal": "of_list-requires" + f"-in-{row['data']}" * (at > 0)}
+                        for at, row in enumerate(groups[2])],
               "typed": [{"family": it} for of in tables.present if of.typed for it in of.families],
               "laws": [row for row in unique(rows, "plain")
                        if row in listed_in and row["form"] != "twin"]}

@@ -203,7 +203,7 @@ type  name  variant  layout  member  shown as
                 (f"{data}/src/info_data.rt", "kinds (fields)",
                  "        & one_field (pointwise_decides baz.exact-law)\n"),
                 (f"{data}/specs/TunnelData.antt", "kinds (data)",
-                 "tunnels_data_of of.Baz = as_list plain.baz (λ xs. info.Baz xs)\n"),
+                 "tunnels_data_of t of.Baz = as_list plain.baz (λ xs. info.Baz xs)\n"),
                 (f"{data}/proofs/Lawful.antt", "kinds (laws)", "\n-- ---- baz\n\n"
                  "pub baz_is : IsFamily plain.baz\n"),
                 ("crates/linkinfo_c/proofs/CausingData.antt", "kinds (tunnel)",

@@ -8,6 +8,7 @@ use Rattle.linkinfo_table.specs.Last.{attributes_of, placed_from}
 use Rattle.linkinfo_table.specs.Lists.{alike_pairs}
 use Rattle.linkinfo_table.specs.Members.{Members}
 use Rattle.linkinfo_peers.specs.PeerMembers.{netkit_members}
+use Rattle.linkinfo_data.specs.Layered.{types_of}
 use Rattle.linkinfo_data.specs.Data.{data_of}
 use Rattle.linkinfo_data.specs.DeviceData.{devices_data_of}
 use Rattle.linkinfo_table.specs.Layers.{Families, HasOneType, IsLayer, Types}
@@ -76,7 +77,7 @@ lower_paired layer is lower.Dsa = as_paired layer.dsa is.dsa.one_type
 -- End: written by tables/generate.
 
 pub devices_paired : {L : Types} (layer : Families L) → IsLayer layer → (f : DeviceFamily) →
-    IsPaired (devices_data_of layer f)
+    IsPaired (devices_data_of (types_of layer) f)
 -- Begin: written by tables/generate from tables/kinds (device).
 devices_paired layer is device.IpVlan = as_paired plain.ip_vlan (rows_type _)
 devices_paired layer is device.IpVtap = as_paired plain.ip_vtap (rows_type _)
@@ -91,7 +92,7 @@ devices_paired layer is device.RmNet = as_paired plain.rm_net (rows_type _)
 -- End: written by tables/generate.
 
 pub tunnels_paired : {L : Types} (layer : Families L) → IsLayer layer → (f : TunnelFamily) →
-    IsPaired (tunnels_data_of layer f)
+    IsPaired (tunnels_data_of (types_of layer) f)
 -- Begin: written by tables/generate from tables/kinds (tunnel).
 tunnels_paired layer is tunnel.Vxlan = as_paired plain.vxlan (rows_type _)
 tunnels_paired layer is tunnel.GreTap = as_paired plain.gre (rows_type _)

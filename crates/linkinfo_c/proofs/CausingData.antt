@@ -64,6 +64,7 @@ use Rattle.linkinfo_tunnels.specs.BareUdp.{bare_udp_rows}
 use Rattle.linkinfo_peers.specs.Batadv.{bat_adv_rows}
 use Rattle.linkinfo_peers.specs.Wwan.{wwan_rows}
 -- End: written by tables/generate.
+use Rattle.linkinfo_data.specs.Layered.{types_of}
 use Rattle.linkinfo_data.specs.BytesLayer.{bytes_layer}
 use Rattle.linkinfo_peers.specs.PeerMembers.{netkit_members, veth_members, vxcan_members}
 use Rattle.linkinfo_data.specs.Data.{data_of, family_of}
@@ -183,7 +184,7 @@ mac_vtap_each c n =
     (λ xs. macvtap.MacAddrData xs) mac_vtap_plain_rows (128 - c) n
 
 devices_errors : (f : DeviceFamily) (p : List ℕ) →
-    EachError ((devices_data_of bytes_layer f).means p)
+    EachError ((devices_data_of (types_of bytes_layer) f).means p)
 -- Begin: written by tables/generate from tables/kinds (device).
 devices_errors device.IpVlan p =
     variant_errors (λ xs. info.IpVlan xs) (values plain.ip_vlan.meaning (nla_items p))
@@ -245,7 +246,7 @@ IsFlagged (tunnel.IpTunnel t) = HasFlags t
 IsFlagged _ = Unit {0}
 
 tunnels_errors : (f : TunnelFamily) → IsFlagged f → (p : List ℕ) →
-    EachError ((tunnels_data_of bytes_layer f).means p)
+    EachError ((tunnels_data_of (types_of bytes_layer) f).means p)
 -- Begin: written by tables/generate from tables/kinds (tunnel).
 tunnels_errors tunnel.Vxlan h p =
     variant_errors (λ xs. info.Vxlan xs) (values plain.vxlan.meaning (nla_items p))

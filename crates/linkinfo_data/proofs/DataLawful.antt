@@ -26,6 +26,7 @@ use Rattle.linkinfo_data.proofs.Lawful.{bat_adv_is}
 use Rattle.linkinfo_data.proofs.Lawful.{wwan_is}
 -- End: written by tables/generate.
 use Rattle.linkinfo_table.specs.Layers.{Families, IsLayer, Types}
+use Rattle.linkinfo_data.specs.Layered.{types_of}
 use Rattle.linkinfo_data.specs.DeviceData.{devices_data_of, mac_vlan_lists, mac_vtap_lists}
 use Rattle.linkinfo_data.specs.InfoData.{data_payload}
 use Rattle.linkinfo_data.specs.Lawful.{AreLawful}
@@ -71,7 +72,7 @@ data_lawful layer is =
       -- End: written by tables/generate.
     ] in
     let device_ones : (f : DeviceFamily) →
-    IsLawful (devices_data_of layer f) (data_payload layer) = elim [
+    IsLawful (devices_data_of (types_of layer) f) (data_payload layer) = elim [
       -- Begin: written by tables/generate from tables/kinds (device).
       | device.IpVlan ↦ as_list_is_lawful plain.ip_vlan (ip_vlan_is family.IpVlan)
           (λ xs. info.IpVlan xs) (data_payload layer) (λ _. refl) (λ x y e. cc)
@@ -96,7 +97,7 @@ data_lawful layer is =
       -- End: written by tables/generate.
     ] in
     let tunnel_ones : (f : TunnelFamily) →
-    IsLawful (tunnels_data_of layer f) (data_payload layer) = elim [
+    IsLawful (tunnels_data_of (types_of layer) f) (data_payload layer) = elim [
       -- Begin: written by tables/generate from tables/kinds (tunnel).
       | tunnel.Vxlan ↦ as_list_is_lawful plain.vxlan vxlan_is (λ xs. info.Vxlan xs)
           (data_payload layer) (λ _. refl) (λ x y e. cc)

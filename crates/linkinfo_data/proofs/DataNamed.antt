@@ -27,6 +27,7 @@ use Rattle.linkinfo_data.proofs.Lawful.{bat_adv_names}
 use Rattle.linkinfo_data.proofs.Lawful.{wwan_names}
 -- End: written by tables/generate.
 use Rattle.linkinfo_table.specs.Layers.{Families, IsLayer, Types, names_of}
+use Rattle.linkinfo_data.specs.Layered.{types_of}
 use Rattle.linkinfo_data.specs.Data.{data_of}
 use Rattle.linkinfo_data.specs.DeviceData.{devices_data_of}
 use Rattle.linkinfo_data.specs.LowerData.{lower_data_of}
@@ -72,7 +73,7 @@ data_named layer is =
       -- End: written by tables/generate.
     ] in
     let device_ones : (f : DeviceFamily) →
-    ErrorsName (device_name layer f ∷ []) (devices_data_of layer f) = elim [
+    ErrorsName (device_name layer f ∷ []) (devices_data_of (types_of layer) f) = elim [
       -- Begin: written by tables/generate from tables/kinds (device).
       | device.IpVlan ↦ list_errors_name (family.IpVlan ∷ []) plain.ip_vlan
           (λ xs. info.IpVlan xs) (ip_vlan_names family.IpVlan)
@@ -93,7 +94,7 @@ data_named layer is =
       -- End: written by tables/generate.
     ] in
     let tunnel_ones : (f : TunnelFamily) →
-    ErrorsName (tunnel_name layer f ∷ []) (tunnels_data_of layer f) = elim [
+    ErrorsName (tunnel_name layer f ∷ []) (tunnels_data_of (types_of layer) f) = elim [
       -- Begin: written by tables/generate from tables/kinds (tunnel).
       | tunnel.Vxlan ↦ list_errors_name (family.Vxlan ∷ []) plain.vxlan
           (λ xs. info.Vxlan xs) vxlan_names

@@ -10,7 +10,7 @@ use Rattle.linkinfo_data.specs.declared.devices.DeviceFamily.{DeviceFamily}
 use Rattle.linkinfo_data.specs.declared.lower.LowerFamily.TheVariants as lower
 use Rattle.linkinfo_data.specs.declared.peers.PeeredFamily.TheVariants as peered
 use Rattle.linkinfo_data.specs.declared.tunnels.TunnelFamily.TheVariants as tunnel
-use Rattle.linkinfo_data.specs.Layered.{DataOf}
+use Rattle.linkinfo_data.specs.Layered.{DataOf, types_of}
 use Rattle.linkinfo_data.specs.declared.info_data.InfoDataOf.TheVariants as info
 use Rattle.linkinfo_data.specs.DeviceData.{
   devices_data_of,
@@ -73,16 +73,16 @@ family_of _ = of.Raw
 -- what payloads mean as data of a family, and the variant that holds it
 abbrev pub data_of : {t : Types} → Families t → DataFamily → Payload (DataOf t)
 data_of layer (of.Lower f) = lower_data_of layer f
-data_of layer (of.Device f) = devices_data_of layer f
-data_of layer (of.Tunnel f) = tunnels_data_of layer f
+data_of layer (of.Device f) = devices_data_of (types_of layer) f
+data_of layer (of.Tunnel f) = tunnels_data_of (types_of layer) f
 data_of layer (of.Peered f) = peers_data_of layer f
 data_of layer of.Raw = as_bytes (λ bytes. info.Other bytes)
 
 pub data_known : {t : Types} (layer : Families t) (f : DataFamily) →
     IsKnown (data_of layer f)
 data_known layer (of.Lower f) = lower_known layer f
-data_known layer (of.Device f) = devices_known layer f
-data_known layer (of.Tunnel f) = tunnels_known layer f
+data_known layer (of.Device f) = devices_known (types_of layer) f
+data_known layer (of.Tunnel f) = tunnels_known (types_of layer) f
 data_known layer (of.Peered f) = peers_known layer f
 data_known layer of.Raw = bytes_are_known (λ bytes. info.Other bytes)
 
@@ -96,7 +96,7 @@ data_nested_in _ = None
 
 device_nests : {t : Types} (layer : Families t) (f : DeviceFamily)
     (nest : Option (ℕ × DeviceFamily)) →
-    IsNested (devices_data_of layer) f nest →
+    IsNested (devices_data_of (types_of layer)) f nest →
     IsNested (data_of layer) (of.Device f) (option_map as_device nest)
 device_nests layer f None law = law
 device_nests layer f (Some nest) law = law
@@ -105,7 +105,7 @@ pub data_nest : {t : Types} (layer : Families t) (f : DataFamily) →
     IsNested (data_of layer) f (data_nested_in f)
 data_nest layer (of.Lower f) = lower_nest layer f
 data_nest layer (of.Device f) =
-    device_nests layer f (devices_nested_in f) (devices_nest layer f)
-data_nest layer (of.Tunnel f) = tunnels_nest layer f
+    device_nests layer f (devices_nested_in f) (devices_nest (types_of layer) f)
+data_nest layer (of.Tunnel f) = tunnels_nest (types_of layer) f
 data_nest layer (of.Peered f) = peers_nest layer f
 data_nest layer of.Raw = tt {0}

@@ -1,5 +1,5 @@
 -- Data and port data over a layer, by the types that it supplies.
-use Rattle.linkinfo_table.specs.Layers.{Types}
+use Rattle.linkinfo_table.specs.Layers.{Families, Types}
 use Rattle.linkinfo_data.specs.declared.info_data.InfoDataOf.{InfoDataOf}
 use Rattle.linkinfo_data.specs.declared.port_data.InfoPortDataOf.{InfoPortDataOf}
 
@@ -11,3 +11,7 @@ abbrev pub PortDataOf : Types → Type 0
 PortDataOf t =
     InfoPortDataOf t.Layer t.Peer t.Bond t.Bridge t.Vlan t.Can t.Hsr t.Dsa t.Tun t.BondPort
     t.BridgePort
+
+-- the types of the layer of these families
+abbrev pub types_of : {t : Types} → Families t → Types
+types_of {t = t} layer = t

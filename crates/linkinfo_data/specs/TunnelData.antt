@@ -1,6 +1,6 @@
 -- Data of tunnels: what payloads mean under each family, and the variant that holds it.
 use Rattle.std.specs.Prelude.{None, refl}
-use Rattle.linkinfo_table.specs.Layers.{Families, Types}
+use Rattle.linkinfo_table.specs.Layers.{Types}
 use Rattle.linkinfo_data.specs.Layered.{DataOf}
 use Rattle.linkinfo_data.specs.declared.info_data.InfoDataOf.TheVariants as info
 use Rattle.linkinfo_data.specs.declared.tunnels.TunnelFamily.{TunnelFamily}
@@ -9,46 +9,46 @@ use Rattle.linkinfo_data.specs.Listed.{IsKnown, IsNested, list_is_known}
 use Rattle.linkinfo_data.specs.Payloads.{Payload, as_list}
 use Rattle.linkinfo_data.specs.Plain.{plain}
 
-abbrev pub tunnels_data_of : {t : Types} → Families t → TunnelFamily → Payload (DataOf t)
+abbrev pub tunnels_data_of : (t : Types) → TunnelFamily → Payload (DataOf t)
 -- Begin: written by tables/generate from tables/kinds (data).
-tunnels_data_of layer of.Vxlan = as_list plain.vxlan (λ xs. info.Vxlan xs)
-tunnels_data_of layer of.GreTap = as_list plain.gre (λ xs. info.GreTap xs)
-tunnels_data_of layer of.GreTap6 = as_list plain.gre6 (λ xs. info.GreTap6 xs)
-tunnels_data_of layer (of.IpTunnel tag) = as_list (plain.ip_tunnel tag) (λ xs. info.IpTunnel xs)
-tunnels_data_of layer of.GreTun = as_list plain.gre (λ xs. info.GreTun xs)
-tunnels_data_of layer of.GreTun6 = as_list plain.gre6 (λ xs. info.GreTun6 xs)
-tunnels_data_of layer of.Vti = as_list plain.vti (λ xs. info.Vti xs)
-tunnels_data_of layer of.Gtp = as_list plain.gtp (λ xs. info.Gtp xs)
-tunnels_data_of layer of.Geneve = as_list plain.geneve (λ xs. info.Geneve xs)
-tunnels_data_of layer of.Amt = as_list plain.amt (λ xs. info.Amt xs)
-tunnels_data_of layer of.BareUdp = as_list plain.bare_udp (λ xs. info.BareUdp xs)
-tunnels_data_of layer of.ErSpan = as_list plain.gre (λ xs. info.ErSpan xs)
-tunnels_data_of layer of.Ip6ErSpan = as_list plain.gre6 (λ xs. info.Ip6ErSpan xs)
+tunnels_data_of t of.Vxlan = as_list plain.vxlan (λ xs. info.Vxlan xs)
+tunnels_data_of t of.GreTap = as_list plain.gre (λ xs. info.GreTap xs)
+tunnels_data_of t of.GreTap6 = as_list plain.gre6 (λ xs. info.GreTap6 xs)
+tunnels_data_of t (of.IpTunnel tag) = as_list (plain.ip_tunnel tag) (λ xs. info.IpTunnel xs)
+tunnels_data_of t of.GreTun = as_list plain.gre (λ xs. info.GreTun xs)
+tunnels_data_of t of.GreTun6 = as_list plain.gre6 (λ xs. info.GreTun6 xs)
+tunnels_data_of t of.Vti = as_list plain.vti (λ xs. info.Vti xs)
+tunnels_data_of t of.Gtp = as_list plain.gtp (λ xs. info.Gtp xs)
+tunnels_data_of t of.Geneve = as_list plain.geneve (λ xs. info.Geneve xs)
+tunnels_data_of t of.Amt = as_list plain.amt (λ xs. info.Amt xs)
+tunnels_data_of t of.BareUdp = as_list plain.bare_udp (λ xs. info.BareUdp xs)
+tunnels_data_of t of.ErSpan = as_list plain.gre (λ xs. info.ErSpan xs)
+tunnels_data_of t of.Ip6ErSpan = as_list plain.gre6 (λ xs. info.Ip6ErSpan xs)
 
 -- End: written by tables/generate.
 
-pub tunnels_known : {t : Types} (layer : Families t) (f : TunnelFamily) →
-    IsKnown (tunnels_data_of layer f)
+pub tunnels_known : (t : Types) (f : TunnelFamily) →
+    IsKnown (tunnels_data_of t f)
 -- Begin: written by tables/generate from tables/kinds (known).
-tunnels_known layer of.Vxlan = list_is_known plain.vxlan (λ xs. info.Vxlan xs)
-tunnels_known layer of.GreTap = list_is_known plain.gre (λ xs. info.GreTap xs)
-tunnels_known layer of.GreTap6 = list_is_known plain.gre6 (λ xs. info.GreTap6 xs)
-tunnels_known layer (of.IpTunnel tag) =
+tunnels_known t of.Vxlan = list_is_known plain.vxlan (λ xs. info.Vxlan xs)
+tunnels_known t of.GreTap = list_is_known plain.gre (λ xs. info.GreTap xs)
+tunnels_known t of.GreTap6 = list_is_known plain.gre6 (λ xs. info.GreTap6 xs)
+tunnels_known t (of.IpTunnel tag) =
     list_is_known (plain.ip_tunnel tag) (λ xs. info.IpTunnel xs)
-tunnels_known layer of.GreTun = list_is_known plain.gre (λ xs. info.GreTun xs)
-tunnels_known layer of.GreTun6 = list_is_known plain.gre6 (λ xs. info.GreTun6 xs)
-tunnels_known layer of.Vti = list_is_known plain.vti (λ xs. info.Vti xs)
-tunnels_known layer of.Gtp = list_is_known plain.gtp (λ xs. info.Gtp xs)
-tunnels_known layer of.Geneve = list_is_known plain.geneve (λ xs. info.Geneve xs)
-tunnels_known layer of.Amt = list_is_known plain.amt (λ xs. info.Amt xs)
-tunnels_known layer of.BareUdp = list_is_known plain.bare_udp (λ xs. info.BareUdp xs)
-tunnels_known layer of.ErSpan = list_is_known plain.gre (λ xs. info.ErSpan xs)
-tunnels_known layer of.Ip6ErSpan = list_is_known plain.gre6 (λ xs. info.Ip6ErSpan xs)
+tunnels_known t of.GreTun = list_is_known plain.gre (λ xs. info.GreTun xs)
+tunnels_known t of.GreTun6 = list_is_known plain.gre6 (λ xs. info.GreTun6 xs)
+tunnels_known t of.Vti = list_is_known plain.vti (λ xs. info.Vti xs)
+tunnels_known t of.Gtp = list_is_known plain.gtp (λ xs. info.Gtp xs)
+tunnels_known t of.Geneve = list_is_known plain.geneve (λ xs. info.Geneve xs)
+tunnels_known t of.Amt = list_is_known plain.amt (λ xs. info.Amt xs)
+tunnels_known t of.BareUdp = list_is_known plain.bare_udp (λ xs. info.BareUdp xs)
+tunnels_known t of.ErSpan = list_is_known plain.gre (λ xs. info.ErSpan xs)
+tunnels_known t of.Ip6ErSpan = list_is_known plain.gre6 (λ xs. info.Ip6ErSpan xs)
 
 -- End: written by tables/generate.
 
 -- no attribute holds a list
-pub tunnels_nest : {t : Types} (layer : Families t) (f : TunnelFamily) →
-    IsNested (tunnels_data_of layer) f None
-tunnels_nest layer (of.IpTunnel tag) = refl
-tunnels_nest layer _ = refl
+pub tunnels_nest : (t : Types) (f : TunnelFamily) →
+    IsNested (tunnels_data_of t) f None
+tunnels_nest t (of.IpTunnel tag) = refl
+tunnels_nest t _ = refl

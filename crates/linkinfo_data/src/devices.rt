@@ -76,13 +76,13 @@ macro_rules! of_device {
 }
 
 impl<P: LinkLayer> PayloadFamily<InfoDataOf<P>> for DeviceFamily {
-    ghost data_of = { λ family. devices_data_of ⟦<P as LayerFamilies>⟧.families family };
+    ghost data_of = { λ family. devices_data_of (types_of ⟦<P as LayerFamilies>⟧.families) family };
 
-    ghost known = { λ family. devices_known ⟦<P as LayerFamilies>⟧.families family };
+    ghost known = { λ family. devices_known (types_of ⟦<P as LayerFamilies>⟧.families) family };
 
     ghost nested_in = { devices_nested_in };
 
-    ghost nests = { λ family. devices_nest ⟦<P as LayerFamilies>⟧.families family };
+    ghost nests = { λ family. devices_nest (types_of ⟦<P as LayerFamilies>⟧.families) family };
 
     fn listing(self) -> Option<Family> {
         match self {

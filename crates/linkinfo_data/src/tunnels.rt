@@ -1,6 +1,7 @@
 //! Data of tunnels.
 
 ghost use Rattle.std.specs.Prelude.{None};
+ghost use Rattle.linkinfo_data.specs.Layered.{types_of};
 ghost use Rattle.linkinfo_data.specs.TunnelData.{tunnels_data_of, tunnels_known, tunnels_nest};
 
 use crate::ask::Ask;
@@ -103,13 +104,13 @@ macro_rules! of_tunnel {
 }
 
 impl<P: LinkLayer> PayloadFamily<InfoDataOf<P>> for TunnelFamily {
-    ghost data_of = { λ family. tunnels_data_of ⟦<P as LayerFamilies>⟧.families family };
+    ghost data_of = { λ family. tunnels_data_of (types_of ⟦<P as LayerFamilies>⟧.families) family };
 
-    ghost known = { λ family. tunnels_known ⟦<P as LayerFamilies>⟧.families family };
+    ghost known = { λ family. tunnels_known (types_of ⟦<P as LayerFamilies>⟧.families) family };
 
     ghost nested_in = { λ _. None };
 
-    ghost nests = { λ family. tunnels_nest ⟦<P as LayerFamilies>⟧.families family };
+    ghost nests = { λ family. tunnels_nest (types_of ⟦<P as LayerFamilies>⟧.families) family };
 
     fn listing(self) -> Option<Family> {
         match self {

@@ -13,18 +13,18 @@ class Derives(RuleTest):
     def test_values(self):
         self.assert_written(
             derives.derive_orders,
-            "#[derive(Clone, Copy, Eq)] struct A; #[derive(Eq, Clone)] pub enum B<T> {} "
-            "#[derive(Copy, Eq, Hash)] struct C<'a>(&'a u8);",
-            "#[derive(Clone, Copy, Eq, Hash, PartialOrd, Ord)] struct A; "
-            "#[derive(Eq, Hash, PartialOrd, Ord, Clone)] pub enum B<T> {} "
-            "#[derive(Copy, Eq, PartialOrd, Ord, Hash)] struct C<'a>(&'a u8);",
+            "#[derive(Debug, Copy, Eq)] struct A; #[derive(Eq, Debug)] pub enum B<T> {} "
+            "#[derive(Copy, Eq, Debug, Hash)] struct C<'a>(&'a u8);",
+            "#[derive(Debug, Copy, Eq, Hash, PartialOrd, Ord)] struct A; "
+            "#[derive(Eq, Hash, PartialOrd, Ord, Debug)] pub enum B<T> {} "
+            "#[derive(Copy, Eq, PartialOrd, Ord, Debug, Hash)] struct C<'a>(&'a u8);",
         )
 
     def test_others(self):
         self.assert_kept(
             derives.derive_orders,
-            "#[derive(Clone, Copy, PartialEq)] struct A; "
-            "#[derive(Eq, Clone)] struct B<'a>(&'a u8);",
+            "#[derive(Debug, Copy, PartialEq)] struct A; #[derive(PartialEq, Eq)] struct C<T>(T); "
+            "#[derive(Eq, Debug)] struct B<'a>(&'a u8);",
         )
 
 

@@ -84,7 +84,7 @@ pub fn linkinfo_port_kind_of_name(name: &[u8]) -> u16 {
 }
 
 /// Writes family, type in decimal and cause of an error, as `linkinfo 2 order`, and returns the
-/// length of this text: at most 28 bytes. The text is empty without an error, and if a number is no
+/// length of this text: at most 32 bytes. The text is empty without an error, and if a number is no
 /// family or no cause.
 pub fn linkinfo_error_text(error: LinkinfoError, buffer: &mut [u8]) -> usize {
     match (family_of_code(error.family), cause_of_code(error.cause)) {
@@ -100,8 +100,8 @@ pub fn linkinfo_error_text(error: LinkinfoError, buffer: &mut [u8]) -> usize {
     }
 }
 
-/// The text of an error: at most 10, 5 and 11 bytes, with a space between them.
-fn error_line(error: DecodeError) -> ArrayString<28> {
+/// The text of an error: at most 14, 5 and 11 bytes, with a space between them.
+fn error_line(error: DecodeError) -> ArrayString<32> {
     let mut text = ArrayString::new();
     let mut decimal = itoa::Buffer::new();
     text.push_str(error.family.name());

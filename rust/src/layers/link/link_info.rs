@@ -11,7 +11,7 @@ use core::fmt::{self, Debug, Formatter};
 
 /// An attribute in `IFLA_LINKINFO`, over the layer `P`: with peers of its type, and attributes of
 /// its families.
-#[derive(PartialEq, Eq, Hash, PartialOrd, Ord)]
+#[derive(PartialEq, Eq)]
 pub enum LinkInfoOf<P: LinkLayer> {
     /// The statistics of the link (`IFLA_INFO_XSTATS`).
     Xstats(LinkXstats),

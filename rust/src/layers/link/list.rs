@@ -92,7 +92,7 @@ fn check_string<P: DataLayer>(bytes: &[u8], count: &mut HeaderCount) -> Result<(
 /// [`nlas_fit_len`]: crate::layers::nla_frame::nlas_fit_len
 /// [`emit_nlas`]: crate::layers::nla_frame::emit_nlas
 /// [`as_slice`]: crate::layers::link::VecLinkInfoOf::as_slice
-#[derive(PartialEq, Eq, Hash, PartialOrd, Ord)]
+#[derive(PartialEq, Eq)]
 pub struct VecLinkInfoOf<P: LinkLayer>(pub Nlas<LinkInfoOf<P>>);
 
 impl<P: LinkLayer + Debug> Debug for VecLinkInfoOf<P>

@@ -8,7 +8,11 @@ mod qos;
 mod vlan;
 // End: written by tables/generate.
 
+mod layer;
+
 // Begin: written by tables/generate from tables/families (types).
 pub use qos::VlanQosMapping;
 pub use vlan::InfoVlan;
 // End: written by tables/generate.
+
+pub use layer::Typed;
