@@ -6,6 +6,7 @@ use Rattle.std.proofs.lemmas.Bool.{cases_Bool, eq-eqb, eqb-true}
 use Rattle.nla_frame.specs.Attribute.{masked}
 use Rattle.nla_frame.specs.NlaItems.{nla_items}
 use Rattle.nla_frame.specs.declared.error.Family.TheVariants as family
+use Rattle.linkinfo_table.proofs.Lasts.{left_at_start, left_of}
 use Rattle.linkinfo_table.specs.Last.{attributes_of}
 use Rattle.linkinfo_table.specs.Rows.{row_alike}
 use Rattle.linkinfo_table.specs.declared.last.PlacedNla.{PlacedNla}
@@ -149,6 +150,15 @@ module _ {L : Types} (layer : Families L) where
   abbrev pub left_difference : CurrentKinds → List PlacedNla → List PlacedNla → Option Difference
   left_difference t ps qs =
       pairs_difference family.LinkInfo (link_difference layer) next_kinds t ps qs
+
+  -- at the start all of both lists is left
+  pub all_is_left : (t : CurrentKinds) (a b : List ℕ) → t ≡ no_kinds →
+      left_difference t (left_of a a) (left_of b b) ≡ strings_difference layer a b
+  all_is_left t a b is =
+      ap (λ (u : CurrentKinds). left_difference u (left_of a a) (left_of b b)) is
+      ∙ ap (λ (ps : List PlacedNla). left_difference no_kinds ps (left_of b b)) (left_at_start a)
+      ∙ ap (λ (qs : List PlacedNla). left_difference no_kinds (attributes_of a) qs)
+      (left_at_start b)
 
   pub pair_passes : (t : CurrentKinds) (r : Role) (k : ℕ) (p q : PlacedNla) (ps qs : List PlacedNla)
       (d : Option Difference) → r ≡ role_of t k → k ≡ masked p.nla.kind →

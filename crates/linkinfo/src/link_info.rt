@@ -120,9 +120,11 @@ impl<P: DataLayer> Nla for LinkInfoOf<P> {
     }
 }
 
-impl<P: LinkLayer + PartialEq> ExactEq for LinkInfoOf<P> {
-    ghost use Rattle.linkinfo.specs.declared.link_info.LinkInfoOf.TheVariants as info;
-    ghost use Rattle.linkinfo_data.specs.Equal.{apart, under};
+impl<P: DataLayer> ExactEq for LinkInfoOf<P> {
+    ghost use Rattle.nla_frame.specs.Derived.{one_field};
+    ghost use Rattle.nla_frame.specs.Pairs.{◌&◌};
+    ghost use Rattle.linkinfo_data.specs.LayerVariants.{by_variants};
+    ghost use Rattle.linkinfo.specs.contracts.link_info.LinkInfoOf.{enum};
     ghost use Rattle.linkinfo.specs.contracts.xstats.LinkXstatsExactEq.TheImpl.Laws.{
       exact-law as xstats_exact,
     };
@@ -136,30 +138,14 @@ impl<P: LinkLayer + PartialEq> ExactEq for LinkInfoOf<P> {
       exact-law as kept_exact,
     };
 
-    ghost exact = { elim [
-      | info.Xstats x ↦ elim [
-        | info.Xstats y ↦ under (λ v. info.Xstats v) (λ e. cc) (xstats_exact x y)
-        | _ ↦ apart (λ e. cc)
-      ]
-      | info.Kind x ↦ elim [
-        | info.Kind y ↦ under (λ v. info.Kind v) (λ e. cc) (kind_exact x y)
-        | _ ↦ apart (λ e. cc)
-      ]
-      | info.Data x ↦ elim [
-        | info.Data y ↦ under (λ v. info.Data v) (λ e. cc) (⟦<InfoDataOf<P> as ExactEq>⟧.exact x y)
-        | _ ↦ apart (λ e. cc)
-      ]
-      | info.PortKind x ↦ elim [
-        | info.PortKind y ↦ under (λ v. info.PortKind v) (λ e. cc) (port_kind_exact x y)
-        | _ ↦ apart (λ e. cc)
-      ]
-      | info.PortData x ↦ elim [
-        | info.PortData y ↦ under (λ v. info.PortData v) (λ e. cc) (⟦<InfoPortDataOf<P> as ExactEq>⟧.exact x y)
-        | _ ↦ apart (λ e. cc)
-      ]
-      | info.Other x ↦ elim [
-        | info.Other y ↦ under (λ v. info.Other v) (λ e. cc) (kept_exact x y)
-        | _ ↦ apart (λ e. cc)
-      ]
-    ] };
+    ghost exact = { by_variants enum P.PartialEq P.Peer.ExactEq P.Bond.ExactEq P.Bridge.ExactEq
+        P.Vlan.ExactEq P.Can.ExactEq P.Hsr.ExactEq P.Dsa.ExactEq P.Tun.ExactEq P.BondPort.ExactEq
+        P.BridgePort.ExactEq _
+        (one_field xstats_exact
+        & one_field kind_exact
+        & one_field P.data_exact
+        & one_field port_kind_exact
+        & one_field P.port_data_exact
+        & one_field kept_exact
+        & tt) };
 }

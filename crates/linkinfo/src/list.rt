@@ -182,13 +182,37 @@ where
 /// families.
 pub type VecLinkInfo = VecLinkInfoOf<Bytes>;
 
-impl<P: LinkLayer + PartialEq> ExactEq for VecLinkInfoOf<P> {
+impl<P: DataLayer> ExactEq for VecLinkInfoOf<P> {
     ghost use Rattle.std.specs.Prelude.{refl};
     ghost use Rattle.std.specs.Cmp.Lexicographic.{pointwise_decides};
-    ghost use Rattle.nla_frame.specs.Derived.{fields_decide};
+    ghost use Rattle.nla_frame.specs.Derived.{fields_decide, one_field};
+    ghost use Rattle.nla_frame.specs.Pairs.{◌&◌};
+    ghost use Rattle.linkinfo_data.specs.LayerVariants.{by_variants};
+    ghost use Rattle.linkinfo.specs.contracts.link_info.LinkInfoOf.{enum};
+    ghost use Rattle.linkinfo.specs.contracts.xstats.LinkXstatsExactEq.TheImpl.Laws.{
+      exact-law as xstats_exact,
+    };
+    ghost use Rattle.linkinfo_numbers.specs.contracts.kind.InfoKindExactEq.TheImpl.Laws.{
+      exact-law as kind_exact,
+    };
+    ghost use Rattle.linkinfo_numbers.specs.contracts.port_kind.InfoPortKindExactEq.TheImpl.Laws.{
+      exact-law as port_kind_exact,
+    };
+    ghost use Rattle.nla_frame.specs.contracts.default_nla.DefaultNlaExactEq.TheImpl.Laws.{
+      exact-law as kept_exact,
+    };
 
     ghost exact = { fields_decide (λ list. list.0) (λ items. record { 0 = items }) (λ list. refl)
-        (pointwise_decides ⟦<LinkInfoOf<P> as ExactEq>⟧.exact) };
+        (pointwise_decides (by_variants enum P.PartialEq P.Peer.ExactEq P.Bond.ExactEq
+        P.Bridge.ExactEq P.Vlan.ExactEq P.Can.ExactEq P.Hsr.ExactEq P.Dsa.ExactEq P.Tun.ExactEq
+        P.BondPort.ExactEq P.BridgePort.ExactEq _
+        (one_field xstats_exact
+        & one_field kind_exact
+        & one_field P.data_exact
+        & one_field port_kind_exact
+        & one_field P.port_data_exact
+        & one_field kept_exact
+        & tt))) };
 }
 
 impl<P: LinkLayer> VecLinkInfoOf<P> {

@@ -29,6 +29,7 @@ ghost use Rattle.linkinfo.specs.Unmet.{
   names_before,
   names_in,
   no_names,
+  role_unmet,
   same_kind,
   strings_unmet,
   unmet_answer,
@@ -232,12 +233,23 @@ fn placed_unmet<P: DataLayer>(
     if !is_same_kind(role, had, wanted) {
         return Some(whole(placed, Some(found.offset)));
     }
+    role_unmet::<P>(role, found, placed)
+}
+
+/// What of an attribute another one of its type and role does not meet.
+fn role_unmet<P: DataLayer>(role: Role, have: &PlacedNla<'_>, want: &PlacedNla<'_>) -> Option<Unmet>
+    requires have { IsOk (item_meaning P.families role have.now.nla) }
+    requires want { IsOk (item_meaning P.families role want.now.nla) }
+    requires have_room { have.now.offset + (4 + length have.now.nla.value) < 2 ^ 64 }
+    requires want_room { want.now.offset + (4 + length want.now.nla.value) < 2 ^ 64 }
+    ensures { result ≡ role_unmet P.families role have.now want.now }
+{
     match role {
-        Role::Data(tag) => data_unmet::<InfoDataOf<P>, DataFamily>(family_of(tag), found, placed),
+        Role::Data(tag) => data_unmet::<InfoDataOf<P>, DataFamily>(family_of(tag), have, want),
         Role::PortData(tag) => {
-            data_unmet::<InfoPortDataOf<P>, PortFamily>(port_family_of(tag), found, placed)
+            data_unmet::<InfoPortDataOf<P>, PortFamily>(port_family_of(tag), have, want)
         }
-        _ => item_unmet::<P>(role, found, placed),
+        _ => item_unmet::<P>(role, have, want),
     }
 }
 

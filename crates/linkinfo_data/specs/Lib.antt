@@ -2,12 +2,12 @@ pub mod Asking
 pub mod BytesLayer
 pub mod Conditions
 pub mod Data
-pub mod DataVariants
 pub mod DeviceData
 pub mod Difference
 pub mod Encoding
 pub mod Equal
 pub mod InfoData
+pub mod LayerVariants
 pub mod Layered
 pub mod Lawful
 pub mod Listed
@@ -20,6 +20,5 @@ pub mod PeerData
 pub mod PeerLayer
 pub mod Plain
 pub mod PortData
-pub mod PortVariants
 pub mod TunnelData
 pub mod Unmet

@@ -1,5 +1,6 @@
 //! Data of ipvlan, ipvtap, macvlan, macvtap, vrf, ipoib, xfrm, macsec and rmnet links.
 
+ghost use Rattle.linkinfo_data.specs.Layered.{types_of};
 ghost use Rattle.linkinfo_data.specs.DeviceData.{
   devices_data_of,
   devices_known,

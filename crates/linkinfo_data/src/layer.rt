@@ -2,6 +2,7 @@
 //! the families are that the layer supplies.
 
 ghost use Rattle.std.specs.Prelude.{◌≡◌, ◌+◌, ◌/◌, ◌<◌, ◌^◌, length};
+ghost use Rattle.std.specs.Bool.{Decides};
 ghost use Rattle.nla_frame.specs.Writing.{Writes};
 ghost use Rattle.linkinfo_table.proofs.Layering.{supplied_family};
 ghost use Rattle.linkinfo_table.specs.Calls.{Reads};
@@ -10,6 +11,7 @@ ghost use Rattle.linkinfo_data.specs.Asking.{facts_of};
 ghost use Rattle.linkinfo_data.specs.Data.{data_of};
 ghost use Rattle.linkinfo_data.specs.Encoding.{HasRoom, IsFitLen};
 ghost use Rattle.linkinfo_data.specs.InfoData.{data_payload};
+ghost use Rattle.linkinfo_data.specs.Layered.{DataOf, PortDataOf, types_of};
 ghost use Rattle.linkinfo_data.specs.Listing.{family_in};
 ghost use Rattle.linkinfo_data.specs.PortData.{port_data_of, port_data_payload};
 
@@ -123,6 +125,12 @@ pub trait DataLayer: LinkLayer + Eq + Sized {
         ensures { Writes (port_data_payload families value.now) buffer.old buffer.new result };
 
     ghost is_layer: { IsLayer families };
+
+    ghost data_exact: { (x y : DataOf (types_of families)) →
+        Decides (⟦<InfoDataOf<Self> as PartialEq>⟧.eq x y) (x ≡ y) };
+
+    ghost port_data_exact: { (x y : PortDataOf (types_of families)) →
+        Decides (⟦<InfoPortDataOf<Self> as PartialEq>⟧.eq x y) (x ≡ y) };
 }
 
 /// Matches a family of ports, and expands `$call!`, of `calls`, for its data.
@@ -139,7 +147,96 @@ macro_rules! of_port {
 }
 
 impl<L: LinkLayer + Eq> DataLayer for L {
+    ghost use Rattle.std.specs.Cmp.Lexicographic.{bytes_decides, pointwise_decides};
+    ghost use Rattle.std.proofs.Common.{rules};
+    ghost use Rattle.nla_frame.specs.Derived.{one_field};
+    ghost use Rattle.nla_frame.specs.Pairs.{◌&◌};
+    ghost use Rattle.linkinfo_data.specs.LayerVariants.{by_variants};
+    ghost use Rattle.linkinfo_data.specs.contracts.info_data.InfoDataOf as of_data;
+    ghost use Rattle.linkinfo_data.specs.contracts.port_data.InfoPortDataOf as of_port_data;
+    // Begin: written by tables/generate from tables/kinds (laws).
+    ghost use Rattle.linkinfo_tunnels.specs.contracts.vxlan.InfoVxlanExactEq.TheImpl.Laws as vxlan;
+    ghost use Rattle.linkinfo_devices.specs.contracts.macvlan.InfoMacVlanExactEq.TheImpl.Laws
+        as mac_vlan;
+    ghost use Rattle.linkinfo_devices.specs.contracts.macvtap.InfoMacVtapExactEq.TheImpl.Laws
+        as mac_vtap;
+    ghost use Rattle.linkinfo_tunnels.specs.contracts.gre.InfoGreExactEq.TheImpl.Laws as gre;
+    ghost use Rattle.linkinfo_tunnels.specs.contracts.gre6.InfoGre6ExactEq.TheImpl.Laws as gre6;
+    ghost use Rattle.linkinfo_tunnels.specs.contracts.ip_tunnel.InfoIpTunnelExactEq.TheImpl.Laws
+        as ip_tunnel;
+    ghost use Rattle.linkinfo_tunnels.specs.contracts.vti.InfoVtiExactEq.TheImpl.Laws as vti;
+    ghost use Rattle.linkinfo_devices.specs.contracts.vrf.InfoVrfExactEq.TheImpl.Laws as vrf;
+    ghost use Rattle.linkinfo_tunnels.specs.contracts.gtp.InfoGtpExactEq.TheImpl.Laws as gtp;
+    ghost use Rattle.linkinfo_devices.specs.contracts.ipoib.InfoIpoibExactEq.TheImpl.Laws as ipoib;
+    ghost use Rattle.linkinfo_devices.specs.contracts.xfrm.InfoXfrmExactEq.TheImpl.Laws as xfrm;
+    ghost use Rattle.linkinfo_devices.specs.contracts.macsec.InfoMacSecExactEq.TheImpl.Laws
+        as mac_sec;
+    ghost use Rattle.linkinfo_tunnels.specs.contracts.geneve.InfoGeneveExactEq.TheImpl.Laws
+        as geneve;
+    ghost use Rattle.linkinfo_tunnels.specs.contracts.amt.InfoAmtExactEq.TheImpl.Laws as amt;
+    ghost use Rattle.linkinfo_peers.specs.contracts.batadv.InfoBatAdvExactEq.TheImpl.Laws
+        as bat_adv;
+    ghost use Rattle.linkinfo_tunnels.specs.contracts.bare_udp.InfoBareUdpExactEq.TheImpl.Laws
+        as bare_udp;
+    ghost use Rattle.linkinfo_peers.specs.contracts.wwan.InfoWwanExactEq.TheImpl.Laws as wwan;
+    ghost use Rattle.linkinfo_devices.specs.contracts.rmnet.InfoRmNetExactEq.TheImpl.Laws as rm_net;
+    // End: written by tables/generate.
+
     ghost families = { ⟦<L as LayerFamilies>⟧.families };
+
+    ghost data_exact = { by_variants of_data.enum L.PartialEq L.Peer.ExactEq L.Bond.ExactEq L.Bridge.ExactEq
+        L.Vlan.ExactEq L.Can.ExactEq L.Hsr.ExactEq L.Dsa.ExactEq L.Tun.ExactEq L.BondPort.ExactEq
+        L.BridgePort.ExactEq _
+        -- Begin: written by tables/generate from tables/kinds (fields).
+        (one_field (pointwise_decides L.Bridge.exact)
+        & one_field (pointwise_decides L.Tun.exact)
+        & one_field (pointwise_decides L.Vlan.exact)
+        & one_field (λ x y. Prim.search (rules, L.Peer.exact))
+        & one_field (pointwise_decides vxlan.exact-law)
+        & one_field (pointwise_decides L.Bond.exact)
+        & one_field (pointwise_decides (λ a b. Prim.search rules))
+        & one_field (pointwise_decides (λ a b. Prim.search rules))
+        & one_field (pointwise_decides mac_vlan.exact-law)
+        & one_field (pointwise_decides mac_vtap.exact-law)
+        & one_field (pointwise_decides gre.exact-law)
+        & one_field (pointwise_decides gre6.exact-law)
+        & one_field (pointwise_decides ip_tunnel.exact-law)
+        & one_field (pointwise_decides gre.exact-law)
+        & one_field (pointwise_decides gre6.exact-law)
+        & one_field (pointwise_decides vti.exact-law)
+        & one_field (pointwise_decides vrf.exact-law)
+        & one_field (pointwise_decides gtp.exact-law)
+        & one_field (pointwise_decides ipoib.exact-law)
+        & one_field (pointwise_decides (λ a b. Prim.search rules))
+        & one_field (pointwise_decides xfrm.exact-law)
+        & one_field (pointwise_decides mac_sec.exact-law)
+        & one_field (pointwise_decides L.Hsr.exact)
+        & one_field (pointwise_decides geneve.exact-law)
+        & one_field (pointwise_decides (λ a b. Prim.search (rules, L.Peer.exact)))
+        & one_field (λ x y. Prim.search (rules, L.Peer.exact))
+        & one_field (pointwise_decides amt.exact-law)
+        & one_field (pointwise_decides bat_adv.exact-law)
+        & one_field (pointwise_decides bare_udp.exact-law)
+        & one_field (pointwise_decides wwan.exact-law)
+        & one_field (pointwise_decides L.Can.exact)
+        & one_field (pointwise_decides L.Dsa.exact)
+        & one_field (pointwise_decides gre.exact-law)
+        & one_field (pointwise_decides gre6.exact-law)
+        & one_field (pointwise_decides (λ a b. Prim.search rules))
+        & one_field (pointwise_decides rm_net.exact-law)
+        -- End: written by tables/generate.
+        & one_field bytes_decides
+        & tt) };
+
+    ghost port_data_exact = { by_variants of_port_data.enum L.PartialEq L.Peer.ExactEq L.Bond.ExactEq
+        L.Bridge.ExactEq L.Vlan.ExactEq L.Can.ExactEq L.Hsr.ExactEq L.Dsa.ExactEq L.Tun.ExactEq
+        L.BondPort.ExactEq L.BridgePort.ExactEq _
+        (one_field (pointwise_decides L.BondPort.exact)
+        & one_field (pointwise_decides L.BridgePort.exact)
+        & one_field (pointwise_decides vrf.exact-law)
+        & one_field (pointwise_decides (λ a b. Prim.search rules))
+        & one_field bytes_decides
+        & tt) };
 
     ghost is_layer = { record {
       peer = L.Peer.LinkPeer.lawful;

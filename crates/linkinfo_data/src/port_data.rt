@@ -183,19 +183,6 @@ impl<P: DataLayer> Nla for InfoPortDataOf<P> {
     }
 }
 
-impl<P: LinkLayer + PartialEq> ExactEq for InfoPortDataOf<P> {
-    ghost use Rattle.std.specs.Cmp.Lexicographic.{bytes_decides, pointwise_decides};
-    ghost use Rattle.linkinfo_devices.specs.contracts.vrf.InfoVrfExactEq.TheImpl.Laws as vrf_port;
-    ghost use Rattle.nla_frame.specs.Derived.{one_field};
-    ghost use Rattle.linkinfo_data.specs.PortVariants.{by_variants};
-    ghost use Rattle.nla_frame.specs.Pairs.{◌&◌};
-    ghost use Rattle.std.proofs.Common.{rules};
-
-    ghost exact = { by_variants P.PartialEq P.Peer.ExactEq P.Bond.ExactEq P.Bridge.ExactEq P.Vlan.ExactEq P.Can.ExactEq P.Hsr.ExactEq P.Dsa.ExactEq P.Tun.ExactEq P.BondPort.ExactEq P.BridgePort.ExactEq _
-        (one_field (pointwise_decides P.BondPort.exact)
-        & one_field (pointwise_decides P.BridgePort.exact)
-        & one_field (pointwise_decides vrf_port.exact-law)
-        & one_field (pointwise_decides (λ a b. Prim.search rules))
-        & one_field bytes_decides
-        & tt) };
+impl<P: DataLayer> ExactEq for InfoPortDataOf<P> {
+    ghost exact = { P.port_data_exact };
 }

@@ -5,3 +5,5 @@ pub mod Vlan
 pub mod VlanConditions
 -- End: written by tables/generate.
 pub mod Conditions
+pub mod TypedLayer
+pub mod TypedTypes

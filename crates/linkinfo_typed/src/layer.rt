@@ -1,13 +1,17 @@
 //! The layer whose families have types.
 
+ghost use Rattle.linkinfo_table.specs.Layers.{Families};
 ghost use Rattle.linkinfo_table.specs.OneType.{rows_type};
+ghost use Rattle.linkinfo_typed.specs.TypedTypes.{typed_types};
+ghost use Rattle.nla_frame.specs.declared.bytes.Bytes.{Bytes};
 
 use crate::vlan::InfoVlan;
 use linkinfo_table::lower::{
     InfoBond, InfoBondPort, InfoBridge, InfoBridgePort, InfoCan, InfoDsa, InfoHsr,
 };
 use linkinfo_table::opaque::TUN;
-use linkinfo_table::{LinkLayer, LinkPeer, Opaque};
+use linkinfo_table::{LayerFamilies, LinkLayer, LinkPeer, Opaque};
+use nla_frame::Bytes;
 use std::marker::PhantomData;
 
 /// The layer whose peers are `P`, and whose attributes of `vlan` links have types. Those of
@@ -52,4 +56,17 @@ impl<P: LinkPeer> LinkLayer for Typed<P> {
       bond_port_type = rows_type _;
       bridge_port_type = rows_type _;
     } };
+}
+
+/// What the typed layer over peers that are kept as bytes defines.
+pub trait TypedFamilies {
+    ghost typed_layer: { Families (typed_types Bytes) };
+}
+
+/// The type that implements `TypedFamilies`. Only specifications name it: no call takes or returns
+/// it.
+pub struct OverBytes;
+
+impl TypedFamilies for OverBytes {
+    ghost typed_layer = { ⟦<Typed<Bytes> as LayerFamilies>⟧.families };
 }

@@ -4,23 +4,23 @@ use Rattle.nla_frame.specs.Attribute.{masked}
 use Rattle.nla_frame.specs.NlaItems.{nla_items}
 use Rattle.nla_frame.specs.declared.error.DecodeError.{DecodeError}
 use Rattle.linkinfo_table.specs.declared.last.PlacedNla.{PlacedNla}
-use Rattle.linkinfo_table.proofs.Lasts.{left_at_attribute, left_at_start, left_of}
+use Rattle.linkinfo_table.proofs.Lasts.{left_at_attribute, left_of}
 use Rattle.linkinfo_data.proofs.Differences.{no_difference}
 use Rattle.linkinfo.specs.Strings.{reading, values_from}
 use Rattle.linkinfo.specs.declared.role.CurrentKinds.{CurrentKinds}
-use Rattle.linkinfo.proofs.Differences.{left_difference, pair_alike, pair_passes}
+use Rattle.linkinfo.proofs.Differences.{all_is_left, left_difference, pair_alike, pair_passes}
 use Rattle.linkinfo.proofs.Pairs.{entered_is, paired}
 use Rattle.linkinfo.proofs.difference.first_difference_in.Goals as goal
 
 pub loop-nla-init : goal.loop-nla-init
 unfolding reading
 loop-nla-init g c =
-    let start_a = left_at_start c.args.a.now in
-    let start_b = left_at_start c.args.b.now in
     record {
       first = rw c.none-kinds.ensures c.requires.first;
       second = rw c.none-kinds.ensures c.requires.second;
-      left = rw (c.none-kinds.ensures, start_a, start_b) refl;
+      left =
+          all_is_left g.P.DataLayer.families c.none-kinds.result c.args.a.now c.args.b.now
+          c.none-kinds.ensures;
       room = omega (arith, c.new-count.ensures);
       left_a = omega arith;
       left_b = omega arith;

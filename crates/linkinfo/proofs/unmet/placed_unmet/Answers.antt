@@ -2,7 +2,7 @@ use Rattle.std.specs.Option.{option_map}
 use Rattle.std.proofs.Common.{ap, sym, ◌∙◌, Option}
 use Rattle.linkinfo_table.specs.declared.last.PlacedNla.{PlacedNla}
 use Rattle.linkinfo.specs.Unmet.{link_at, link_unmet, names_in}
-use Rattle.linkinfo.proofs.Unmets.{data_ok, free_roles, free_unmet, port_ok, roles}
+use Rattle.linkinfo.proofs.Unmets.{free_roles, free_unmet, roles}
 use Rattle.linkinfo.proofs.unmet.placed_unmet.Goals as goal
 
 pub item_unmet-requires-clause-have : goal.item_unmet-requires-clause-have
@@ -34,66 +34,20 @@ returns-then-not-belongs_to_a_kind g c =
     (ap (λ (o : Option PlacedNla). link_unmet layer (option_map (link_at have) o) w)
     c.in-Some.is)
 
-pub data_unmet-requires-clause-have : goal.data_unmet-requires-clause-have
-data_unmet-requires-clause-have g c =
-    let layer = g.P.DataLayer.families in
-    let both =
-    roles layer c.args.have.now c.args.want.now c.in-Some.found c.args.placed.now
+pub role_unmet-requires-clause-have : goal.role_unmet-requires-clause-have
+role_unmet-requires-clause-have g c =
+    (roles g.P.DataLayer.families c.args.have.now c.args.want.now c.in-Some.found c.args.placed.now
     c.kind-kind.result c.kinds.result (names_in c.names_before-had.result)
     (names_in c.names_before-wanted.result) c.role_of-role.result c.role_of-role.ensures
     c.kind-kind.ensures c.kinds.ensures c.names_before-wanted.ensures c.names_before-had.ensures
     c.if-not-is_same_kind.ensures (rw c.in-Some.is at c.requires.same_type)
-    (rw c.in-Some.is at c.requires.have) c.requires.want in
-    rw c.family_of.ensures (data_ok layer c.in-Data.tag c.role_of-role.result c.in-Some.found.nla
-    c.in-Data.is both.found)
+    (rw c.in-Some.is at c.requires.have) c.requires.want).found
 
-pub data_unmet-requires-clause-want : goal.data_unmet-requires-clause-want
-data_unmet-requires-clause-want g c =
-    let layer = g.P.DataLayer.families in
-    let both =
-    roles layer c.args.have.now c.args.want.now c.in-Some.found c.args.placed.now
+pub role_unmet-requires-clause-want : goal.role_unmet-requires-clause-want
+role_unmet-requires-clause-want g c =
+    (roles g.P.DataLayer.families c.args.have.now c.args.want.now c.in-Some.found c.args.placed.now
     c.kind-kind.result c.kinds.result (names_in c.names_before-had.result)
     (names_in c.names_before-wanted.result) c.role_of-role.result c.role_of-role.ensures
     c.kind-kind.ensures c.kinds.ensures c.names_before-wanted.ensures c.names_before-had.ensures
     c.if-not-is_same_kind.ensures (rw c.in-Some.is at c.requires.same_type)
-    (rw c.in-Some.is at c.requires.have) c.requires.want in
-    rw c.family_of.ensures (data_ok layer c.in-Data.tag c.role_of-role.result
-    c.args.placed.now.nla c.in-Data.is both.wanted)
-
-pub data_unmet-requires-in-PortData-clause-have : goal.data_unmet-requires-in-PortData-clause-have
-data_unmet-requires-in-PortData-clause-have g c =
-    let layer = g.P.DataLayer.families in
-    let both =
-    roles layer c.args.have.now c.args.want.now c.in-Some.found c.args.placed.now
-    c.kind-kind.result c.kinds.result (names_in c.names_before-had.result)
-    (names_in c.names_before-wanted.result) c.role_of-role.result c.role_of-role.ensures
-    c.kind-kind.ensures c.kinds.ensures c.names_before-wanted.ensures c.names_before-had.ensures
-    c.if-not-is_same_kind.ensures (rw c.in-Some.is at c.requires.same_type)
-    (rw c.in-Some.is at c.requires.have) c.requires.want in
-    rw c.port_family_of.ensures (port_ok layer c.in-PortData.tag c.role_of-role.result
-    c.in-Some.found.nla c.in-PortData.is both.found)
-
-pub data_unmet-requires-in-PortData-clause-want : goal.data_unmet-requires-in-PortData-clause-want
-data_unmet-requires-in-PortData-clause-want g c =
-    let layer = g.P.DataLayer.families in
-    let both =
-    roles layer c.args.have.now c.args.want.now c.in-Some.found c.args.placed.now
-    c.kind-kind.result c.kinds.result (names_in c.names_before-had.result)
-    (names_in c.names_before-wanted.result) c.role_of-role.result c.role_of-role.ensures
-    c.kind-kind.ensures c.kinds.ensures c.names_before-wanted.ensures c.names_before-had.ensures
-    c.if-not-is_same_kind.ensures (rw c.in-Some.is at c.requires.same_type)
-    (rw c.in-Some.is at c.requires.have) c.requires.want in
-    rw c.port_family_of.ensures (port_ok layer c.in-PortData.tag c.role_of-role.result
-    c.args.placed.now.nla c.in-PortData.is both.wanted)
-
-pub item_unmet-requires-in_default-role : goal.item_unmet-requires-in_default-role
-item_unmet-requires-in_default-role g c =
-    let layer = g.P.DataLayer.families in
-    let both =
-    roles layer c.args.have.now c.args.want.now c.in-Some.found c.args.placed.now
-    c.kind-kind.result c.kinds.result (names_in c.names_before-had.result)
-    (names_in c.names_before-wanted.result) c.role_of-role.result c.role_of-role.ensures
-    c.kind-kind.ensures c.kinds.ensures c.names_before-wanted.ensures c.names_before-had.ensures
-    c.if-not-is_same_kind.ensures (rw c.in-Some.is at c.requires.same_type)
-    (rw c.in-Some.is at c.requires.have) c.requires.want in
-    record { have = both.found; want = both.wanted }
+    (rw c.in-Some.is at c.requires.have) c.requires.want).wanted

@@ -94,4 +94,5 @@ pub of_list-requires-in-Ip6ErSpan : goal.of_list-requires-in-Ip6ErSpan
 of_list-requires-in-Ip6ErSpan g c =
     asked (types g) (λ facts. g.Q.Ask.ready facts c.args.question c.args.count.now
     c.args.buffer.now) c.args.self _ c.in-Ip6ErSpan.is c.requires
+
 -- End: written by tables/generate.

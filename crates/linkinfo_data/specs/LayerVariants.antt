@@ -1,6 +1,7 @@
--- The `==` of port data decides equality if the `==` of the contents of each variant does. The
--- equality of the values of the types that the layer supplies is given with these types.
+-- The `==` of an enum over a layer decides equality if the `==` of the contents of each variant does.
+-- The equality of the values of the types that the layer supplies is given with these types.
 use denote.Enum.Compared.{by, Each}
+use denote.Enum.Declared.{Record}
 use denote.RattleType.{RattleType}
 use mir.Syntax.{Dict}
 use Rattle.std.specs.Prelude.{◌≡◌, Bool, false}
@@ -10,10 +11,13 @@ use Rattle.std.specs.contracts.cmp.PartialEq.TheBound as equal
 use Rattle.nla_frame.specs.Derived.{EachDecides, derived_decides}
 use Rattle.nla_frame.specs.declared.exact_eq.ExactEq.{Ghosts as Exact}
 use Rattle.nla_frame.specs.contracts.exact_eq.ExactEq.TheBound as exact
-use Rattle.linkinfo_data.specs.contracts.port_data.InfoPortDataOf.{enum}
-use Rattle.linkinfo_data.specs.declared.port_data.InfoPortDataOf.{InfoPortDataOf}
 
-pub by_variants : {layer peer bond bridge vlan can hsr dsa tun bond_port bridge_port : RattleType}
+-- an enum, by the layer and the types that it supplies
+abbrev pub LayerEnum : Type 2
+LayerEnum = (layer peer bond bridge vlan can hsr dsa tun bond_port bridge_port : RattleType) → Record
+
+pub by_variants : (enum : LayerEnum)
+    {layer peer bond bridge vlan can hsr dsa tun bond_port bridge_port : RattleType}
     {S : Equal layer.Denot} {F : Dict}
     {E1 : Exact peer.Denot} {D1 : Dict} {S1 : Equal peer.Denot} {F1 : Dict}
     {E2 : Exact bond.Denot} {D2 : Dict} {S2 : Equal bond.Denot} {F2 : Dict}
@@ -36,17 +40,18 @@ pub by_variants : {layer peer bond bridge vlan can hsr dsa tun bond_port bridge_
     exact.All tun E8 D8 S8 F8 →
     exact.All bond_port E9 D9 S9 F9 →
     exact.All bridge_port E10 D10 S10 F10 →
-    (tests : Each Bool (enum layer peer bond bridge vlan can hsr dsa tun bond_port bridge_port).parts) →
+    (tests : Each Bool
+    (enum layer peer bond bridge vlan can hsr dsa tun bond_port bridge_port).parts) →
     EachDecides (enum layer peer bond bridge vlan can hsr dsa tun bond_port bridge_port).parts tests →
-    (x y : InfoPortDataOf layer.Denot peer.Denot bond.Denot bridge.Denot vlan.Denot can.Denot hsr.Denot
-    dsa.Denot tun.Denot bond_port.Denot bridge_port.Denot) →
+    (x y : (enum layer peer bond bridge vlan can hsr dsa tun bond_port bridge_port).D) →
     Decides
     (by false false (enum layer peer bond bridge vlan can hsr dsa tun bond_port bridge_port).parts
     tests
     ((enum layer peer bond bridge vlan can hsr dsa tun bond_port bridge_port).as_values x)
     ((enum layer peer bond bridge vlan can hsr dsa tun bond_port bridge_port).as_values y))
     (x ≡ y)
-by_variants {layer = layer} {peer = peer} {bond = bond} {bridge = bridge} {vlan = vlan}
-    {can = can} {hsr = hsr} {dsa = dsa} {tun = tun} {bond_port = bond_port} {bridge_port = bridge_port}
-    _ _ _ _ _ _ _ _ _ _ _ tests each x y =
-    derived_decides (enum layer peer bond bridge vlan can hsr dsa tun bond_port bridge_port) tests each x y
+by_variants enum {layer = layer} {peer = peer} {bond = bond} {bridge = bridge} {vlan = vlan}
+    {can = can} {hsr = hsr} {dsa = dsa} {tun = tun} {bond_port = bond_port}
+    {bridge_port = bridge_port} _ _ _ _ _ _ _ _ _ _ _ tests each x y =
+    derived_decides (enum layer peer bond bridge vlan can hsr dsa tun bond_port bridge_port)
+    tests each x y
