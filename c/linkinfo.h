@@ -13,7 +13,7 @@
  *
  *   int has_all(const uint8_t *have, size_t have_length, const uint8_t *want,
  *               size_t want_length) {
- *     char text[32];
+ *     char text[33];
  *     struct linkinfo_unmet unmet =
  *         linkinfo_first_unmet(have, have_length, want, want_length);
  *     if (unmet.rejected == 0) return unmet.met;
@@ -764,7 +764,7 @@ size_t linkinfo_port_kind_name(uint16_t port_kind, char *buffer,
 /*
  * linkinfo_error_text - family, type and cause of an error as a text
  * @error: the error
- * @buffer: where the text and a NUL are written, truncated to the buffer; 29
+ * @buffer: where the text and a NUL are written, truncated to the buffer; 33
  * bytes are enough
  * @buffer_length: its length in bytes
  *

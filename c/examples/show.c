@@ -25,7 +25,7 @@ static uint8_t *from_hex(const char *text, size_t *length) {
 
 /* Prints the error of a list, where it has one. */
 static bool is_rejected(const char *whose, const uint8_t *bytes, size_t length) {
-  char text[32];
+  char text[33];
   struct linkinfo_error_at at = linkinfo_check_at(bytes, length);
   if (at.error.cause == LINKINFO_CAUSE_NONE) return false;
   linkinfo_error_text(at.error, text, sizeof text);
@@ -117,7 +117,7 @@ static bool is_as_wanted(const uint8_t *have, size_t have_length, const uint8_t 
 }
 
 int main(int count, char **arguments) {
-  char text[32];
+  char text[33];
   size_t length = 0, wanted_length = 0;
   uint8_t *bytes = count > 1 ? from_hex(arguments[1], &length) : NULL;
   uint8_t *wanted = count > 2 ? from_hex(arguments[2], &wanted_length) : NULL;

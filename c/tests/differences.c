@@ -100,7 +100,7 @@ static int is_pair(size_t row) {
 
 static int is_error(size_t row) {
   static struct string list;
-  char result[128], text[32];
+  char result[128], text[33];
   if (!from_hex(errors[row].list, &list)) return 0;
   struct linkinfo_inner_error found = linkinfo_check_inner(list.bytes, list.length);
   linkinfo_error_text(found.error, text, sizeof text);

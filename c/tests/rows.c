@@ -2,6 +2,7 @@
  * rows.py on standard input: 'link NAME TYPE SHAPE' or 'port NAME TYPE SHAPE'. A type without a
  * line has no shape. So too the kernel's names: 'name FAMILY TYPE NAME'. */
 #include "linkinfo.h"
+#include <stdbool.h>
 #include <stdio.h>
 #include <string.h>
 
@@ -127,8 +128,9 @@ int main(void) {
   }
   int status = kind_count == known_kinds() ? 0 : 1;
   for (unsigned number = 0; number < SHAPES; number++) {
-    /* no family has a row of the shape Raw */
-    if ((seen[number] == 0) != (number == LINKINFO_SHAPE_RAW)) {
+    /* no family has a row of the shape Raw, and none of those that C reads one of Nested */
+    bool has_none = number == LINKINFO_SHAPE_RAW || number == LINKINFO_SHAPE_NESTED;
+    if ((seen[number] == 0) != has_none) {
       fprintf(stderr, "shape %s: %u rows\n", names[number], seen[number]);
       status = 1;
     }

@@ -41,7 +41,8 @@ def closing(text, at):
 
 def block_name(header):
     """The name of an impl or a trait in the paths of its functions: `impl From<u32> for AmtMode`
-    is AmtModeFromU32, and `impl<P> From<Vec<Of<P>>> for List<P>` is ListFrom."""
+    is AmtModeFromU32, and `impl<P> From<Vec<Of<P>>> for List<P>` is ListFrom. The unit is Unit, and
+    a pair Tuple2."""
     header = re.sub(r"^(\s*(pub(\([^)]*\))? )?(unsafe )?)", "", header)
     if header.startswith("trait"):
         return re.match(r"trait (\w+)", header)[1]
@@ -50,7 +51,11 @@ def block_name(header):
         header = header[closing(header, 0) + 1 :]
     trait, _, kind = header.rpartition(" for ")
     trait = re.sub(r"<[^<>]*<[^<>]*<.*", "", trait)
-    return (words_of(kind.partition("<")[0]) or "Any") + words_of(trait)
+    if kind.startswith("("):
+        name = f"Tuple{kind.count(',') + 1}" if kind != "()" else "Unit"
+    else:
+        name = words_of(kind.partition("<")[0]) or "Any"
+    return name + words_of(trait)
 
 
 @functools.cache

@@ -1,7 +1,7 @@
 """Writes what follows from the table of a flat family: its module, its specs, its conditions, an
 explicit proof if it has many rows, and its lines and clauses in its crate. Of a family by hand it
 writes the variants and the rows."""
-from .marks import of_family, of_row
+from .marks import of_family, of_row, of_rows
 from .parts import Part, Whole
 from .places import parts, put_in, sections
 from .text import tidy
@@ -33,7 +33,18 @@ def crate_parts(crate, families):
         {**vars(it), "types": ", ".join(filter(None, [it.type, it.alias]))} for it in families]}
     for mark in ("conditions", "stated"):
         given[mark] = ", ".join(sorted(f"{it.snake}_{mark}" for it in families))
-    return parts("crate", {"crate": [(given, [given])]})
+    lists = {it.name: [
+        {**vars(it), **row, "kind": str(int(row["number"]) + 0x8000 * row["flagged"])}
+        for row in of_rows(it, True) if row["inner"]] for it in families if it.layered}
+    nesting = [it for it in families if lists.get(it.name)]
+    return parts("crate", {"crate": [(given, [given])], **{
+        name: [({"crate": crate}, rows)] if lists else [] for name, rows in {
+            "typed": [{**vars(it), "inside": "".join(
+                f"family.{row['inner']} ∷ " for row in lists[it.name])} for it in families
+                      if it.layered],
+            "inner": [vars(it) for it in families if it.inner],
+            "nesting": [{**vars(it), "values": lists[it.name]} for it in nesting],
+            "lists": [row for it in nesting for row in lists[it.name]]}.items()}})
 
 
 def outputs(tables):

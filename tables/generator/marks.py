@@ -218,7 +218,7 @@ def of_family(family):
         "flags": pair or any(value.made == "flags" for value in family.values),
         **custom(family, inner),
         "shapes": ", ".join(shapes), "value_names": ", ".join(sorted(used - {""})),
-        "reads": reads(family, set(shapes)), "numbers": numbers(family), 
+        "reads": reads(family, set(shapes)), "numbers": numbers(family),
         "keeps": keeps([row for row in rows if row["table"]]),
         "all_variants": ", ".join(variants), "searched": not is_listed, "listed": is_listed,
         "derived": ", ".join(["derived_decides", *["no_field"] * bool(

@@ -7,3 +7,4 @@ pub mod VlanConditions
 pub mod Conditions
 pub mod TypedLayer
 pub mod TypedTypes
+pub mod NestedLists

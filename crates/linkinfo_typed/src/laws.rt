@@ -1,11 +1,15 @@
 //! Laws of the typed families, each the contract of a function without code.
 
-ghost use Rattle.std.specs.Prelude.{◌≡◌, ◌↔◌, ℕ};
+ghost use Rattle.std.specs.Prelude.{◌≡◌, ◌↔◌, ℕ, [], ◌∷◌};
 // Begin: written by tables/generate from tables/families (conditions).
 ghost use Rattle.linkinfo_typed.specs.Conditions.{vlan_conditions, vlan_qos_mapping_conditions};
 // End: written by tables/generate.
 ghost use Rattle.linkinfo_shapes.specs.Typed.{typed_shape_of};
 ghost use Rattle.linkinfo_table.specs.FamilyRows.{lookup_in};
+ghost use Rattle.linkinfo_typed.specs.NestedLists.{HoldsListOf};
+// Begin: written by tables/generate from tables/families (variants).
+ghost use Rattle.linkinfo_typed.specs.declared.vlan.InfoVlan.TheVariants as vlan;
+// End: written by tables/generate.
 ghost use Rattle.nla_frame.specs.declared.error.Family.TheVariants as family;
 
 // Begin: written by tables/generate from tables/families (types).
@@ -13,7 +17,7 @@ use crate::qos::VlanQosMapping;
 use crate::vlan::InfoVlan;
 // End: written by tables/generate.
 
-use linkinfo_table::LinkFamily;
+use linkinfo_table::{LinkFamily, ListedFamily};
 
 /// Each name is that of the family it is named after, and so is the family of its errors.
 pub fn named()
@@ -44,5 +48,27 @@ pub fn well_formed()
     ensures vlan_qos_mapping { (x : VlanQosMapping) →
         ⟦<VlanQosMapping as LinkFamily>⟧.well tt x ↔ vlan_qos_mapping_conditions x }
     ensures vlan { (x : InfoVlan) → ⟦<InfoVlan as LinkFamily>⟧.well tt x ↔ vlan_conditions x }
+// End: written by tables/generate.
+{}
+
+/// The families inside each family, one a row with a list of another family: errors in its
+/// attributes may name these.
+pub fn families_inside()
+    // Begin: written by tables/generate from tables/families (inside).
+    ensures vlan_qos_mapping { ⟦<VlanQosMapping as LinkFamily>⟧.inside ≡ [] }
+    ensures vlan { ⟦<InfoVlan as LinkFamily>⟧.inside
+        ≡ family.VlanQosMapping ∷ family.VlanQosMapping ∷ [] }
+// End: written by tables/generate.
+{}
+
+/// What an attribute holds whose row has a list of another family: the list that its payload is, or
+/// the first error in it. It is written with the type of its row, which has `NLA_F_NESTED` where
+/// the table says so, and the canonical encoding of that list.
+pub fn lists_inside()
+    // Begin: written by tables/generate from tables/families (lists).
+    ensures vlan_egress_qos { HoldsListOf (⟦<InfoVlan as ListedFamily>⟧.members tt)
+        (⟦<VlanQosMapping as ListedFamily>⟧.members tt) 3 3 (λ xs. vlan.EgressQos xs) }
+    ensures vlan_ingress_qos { HoldsListOf (⟦<InfoVlan as ListedFamily>⟧.members tt)
+        (⟦<VlanQosMapping as ListedFamily>⟧.members tt) 4 4 (λ xs. vlan.IngressQos xs) }
 // End: written by tables/generate.
 {}

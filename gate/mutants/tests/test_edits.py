@@ -103,6 +103,8 @@ class Edits(unittest.TestCase):
             "impl<'a, P: LinkPeer> Parseable<NlaBuffer<'a>> for InfoVethOf<P>":
                 "InfoVethOfParseableNlaBuffer",
             "impl<F: RowFamily> LinkFamily for F": "AnyLinkFamily",
+            "impl<F: RowFamily> CustomRows<F> for ()": "UnitCustomRows",
+            "impl<F, R: PayloadRow<F>, Rest> CustomRows<F> for (R, Rest)": "Tuple2CustomRows",
             "pub trait Nla": "Nla",
         }.items():
             self.assertEqual(block_name(header), name)

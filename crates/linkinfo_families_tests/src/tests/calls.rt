@@ -2,12 +2,15 @@
 //! checking, comparing and writing by the row of a type, and the slots for values.
 
 ghost use Rattle.std.specs.Prelude.{IsOk};
+ghost use Rattle.linkinfo_devices.specs.contracts.xfrm.InfoXfrmRowFamily.TheImpl.{
+  ghosts as xfrm,
+};
 ghost use Rattle.linkinfo_table.specs.FamilyMeaning.{meaning_by};
 
 use super::rows::{assert_is, attribute, error, kept};
 use linkinfo_devices::InfoXfrm;
 use linkinfo_table::{
-    Datum, Decoded, Encodable, LinkFamily, Lookup, RowFamily, Shape, Slot, TableFamily, row_check,
+    Datum, Decoded, Encodable, LinkFamily, Lookup, RowFamily, Shape, Slot, row_check,
     row_emit_payload, row_emit_value, row_fit_len, row_kind, row_read, row_same, row_store,
     row_value_len, table_lookup, typed_lookup,
 };
@@ -37,20 +40,14 @@ fn are_equal<F: ExactEq>(list: &[F], value: &F) -> bool {
 
 /// Asserts that the attribute is read as the value by its row and by its family, alone and into a
 /// list.
-fn is_read_by_row<F: TableFamily<Custom = ()> + ExactEq>(
-    rt: &impl Abort,
-    alloc: Global,
-    bytes: &[u8],
-    ctx: <F as RowFamily>::Context,
-    value: &F,
-) {
+fn is_read_by_row(rt: &impl Abort, alloc: Global, bytes: &[u8], value: &InfoXfrm) {
     let nla = &attribute(rt, bytes);
-    let read = row_read::<F>(alloc, nla, ctx).expect(rt, "a value");
+    let read = row_read::<InfoXfrm>(alloc, nla, ()).expect(rt, "a value");
     let mut count = HeaderCount::new();
-    let again = F::read(alloc, nla, ctx, &mut count).expect(rt, "a value");
+    let again = InfoXfrm::read(alloc, nla, (), &mut count).expect(rt, "a value");
     let mut list = Vec::new(alloc);
-    row_store::<F, Vec<F>>(&mut list, alloc, nla, ctx).expect(rt, "a value");
-    F::push(&mut list, alloc, nla, ctx, &mut count).expect(rt, "a value");
+    row_store::<InfoXfrm, Vec<InfoXfrm>>(&mut list, alloc, nla, ()).expect(rt, "a value");
+    InfoXfrm::push(&mut list, alloc, nla, (), &mut count).expect(rt, "a value");
     assert_is(
         rt,
         ("row_read, read, row_store and push", bytes),
@@ -64,18 +61,12 @@ fn is_read_by_row<F: TableFamily<Custom = ()> + ExactEq>(
 }
 
 /// Asserts that the attribute is rejected with this error by its row.
-fn is_rejected_by_row<F: TableFamily<Custom = ()>>(
-    rt: &impl Abort,
-    alloc: Global,
-    bytes: &[u8],
-    ctx: <F as RowFamily>::Context,
-    expected: DecodeError,
-) {
+fn is_rejected_by_row(rt: &impl Abort, alloc: Global, bytes: &[u8], expected: DecodeError) {
     let nla = &attribute(rt, bytes);
     let found = [
-        row_read::<F>(alloc, nla, ctx).err(),
-        row_check::<F>(nla, ctx).err(),
-        F::check_value(nla, ctx, &mut HeaderCount::new()).err(),
+        row_read::<InfoXfrm>(alloc, nla, ()).err(),
+        row_check::<InfoXfrm>(nla, ()).err(),
+        InfoXfrm::check_value(nla, (), &mut HeaderCount::new()).err(),
     ];
     assert_is(rt, ("rejected", bytes), found, [Some(expected); 3]);
 }
@@ -84,41 +75,32 @@ fn is_rejected_by_row<F: TableFamily<Custom = ()>>(
 fn reads_by_rows(rt: HostRuntime) {
     let alloc = rt.alloc();
     let value = InfoXfrm::Link(0x0102_0304);
-    is_read_by_row(&rt, alloc, LINK, (), &value);
-    is_read_by_row(&rt, alloc, MARKED, (), &value);
+    is_read_by_row(&rt, alloc, LINK, &value);
+    is_read_by_row(&rt, alloc, MARKED, &value);
     let other = InfoXfrm::Other(kept(&rt, alloc, 0x8003, &[7]));
-    is_read_by_row(&rt, alloc, &[5, 0, 3, 0x80, 7], (), &other);
+    is_read_by_row(&rt, alloc, &[5, 0, 3, 0x80, 7], &other);
     let expected = error(Family::Xfrm, 1, Cause::Length);
-    is_rejected_by_row::<InfoXfrm>(&rt, alloc, SHORT, (), expected);
+    is_rejected_by_row(&rt, alloc, SHORT, expected);
 }
 
 /// The attribute of the bytes, which its row accepts.
-fn accepted<'a, F: TableFamily<Custom = ()>>(
-    rt: &impl Abort,
-    ctx: <F as RowFamily>::Context,
-    bytes: &'a [u8],
-) -> NlaBuffer<'a>
-    ensures { IsOk (meaning_by F.RowFamily.own ctx result) }
+fn accepted<'a>(rt: &impl Abort, bytes: &'a [u8]) -> NlaBuffer<'a>
+    ensures { IsOk (meaning_by xfrm tt result) }
 {
     let nla = attribute(rt, bytes);
-    F::check_value(&nla, ctx, &mut HeaderCount::new()).expect(rt, "an accepted attribute");
-    row_check::<F>(&nla, ctx).expect(rt, "an accepted attribute");
+    InfoXfrm::check_value(&nla, (), &mut HeaderCount::new()).expect(rt, "an accepted attribute");
+    row_check::<InfoXfrm>(&nla, ()).expect(rt, "an accepted attribute");
     nla
 }
 
 /// Whether two accepted attributes are equivalent, by their row and by their family.
-fn same_by_row<F: TableFamily<Custom = ()>>(
-    rt: &impl Abort,
-    ctx: <F as RowFamily>::Context,
-    a: &[u8],
-    b: &[u8],
-) -> [bool; 2] {
-    let a = accepted::<F>(rt, ctx, a);
-    let b = accepted::<F>(rt, ctx, b);
+fn same_by_row(rt: &impl Abort, a: &[u8], b: &[u8]) -> [bool; 2] {
+    let a = accepted(rt, a);
+    let b = accepted(rt, b);
     let mut count = HeaderCount::new();
     [
-        row_same::<F>(&a, &b, ctx),
-        F::same_value(&a, &b, ctx, &mut count),
+        row_same::<InfoXfrm>(&a, &b, ()),
+        InfoXfrm::same_value(&a, &b, (), &mut count),
     ]
 }
 
@@ -128,9 +110,9 @@ fn compares_by_rows(rt: HostRuntime) {
         &rt,
         "same_by_row",
         [
-            same_by_row::<InfoXfrm>(&rt, (), LINK, LINK),
-            same_by_row::<InfoXfrm>(&rt, (), LINK, MARKED),
-            same_by_row::<InfoXfrm>(&rt, (), LINK, OTHER_LINK),
+            same_by_row(&rt, LINK, LINK),
+            same_by_row(&rt, LINK, MARKED),
+            same_by_row(&rt, LINK, OTHER_LINK),
         ],
         [[true; 2], [true; 2], [false; 2]],
     );
@@ -138,13 +120,7 @@ fn compares_by_rows(rt: HostRuntime) {
 
 /// Asserts that the value is written with this type and this payload of four bytes by its row, also
 /// to a buffer of six 255s.
-fn is_written_by_row<F: TableFamily<Custom = ()>>(
-    rt: &impl Abort,
-    value: &F,
-    kind: u16,
-    payload: &[u8],
-    buffer: &[u8],
-) {
+fn is_written_by_row(rt: &impl Abort, value: &InfoXfrm, kind: u16, payload: &[u8], buffer: &[u8]) {
     let len = row_fit_len(value).expect(rt, "a value that fits");
     assert_is(
         rt,

@@ -92,6 +92,20 @@ const LIST: &[u8] = &[
 const TEXT: &str = "[Id(100), EgressQos(Nlas { items: [Mapping((1, 5)), Mapping((2, 6))] }), \
                     IngressQos(Nlas { items: [] }), Protocol(Ieee8021Ad)]";
 
+/// The data of a vlan link, as a kernel returns it: a protocol, an ID, flags under a mask, and two
+/// mappings of received and of sent frames.
+const REPLY: &[u8] = &[
+    6, 0, 5, 0, 0x88, 0xa8, 0, 0, 6, 0, 1, 0, 7, 0, 0, 0, 12, 0, 2, 0, 14, 0, 0, 0, 255, 255, 255,
+    255, 28, 0, 4, 0, 12, 0, 1, 0, 2, 0, 0, 0, 5, 0, 0, 0, 12, 0, 1, 0, 6, 0, 0, 0, 7, 0, 0, 0, 28,
+    0, 3, 0, 12, 0, 1, 0, 1, 0, 0, 0, 2, 0, 0, 0, 12, 0, 1, 0, 3, 0, 0, 0, 4, 0, 0, 0,
+];
+
+/// `REPLY` as `Debug` writes it.
+const REPLY_TEXT: &str = "[Protocol(Ieee8021Ad), Id(7), \
+                          Flags((VlanFlags(14), VlanFlags(4294967295))), \
+                          IngressQos(Nlas { items: [Mapping((2, 5)), Mapping((6, 7))] }), \
+                          EgressQos(Nlas { items: [Mapping((1, 2)), Mapping((3, 4))] })]";
+
 /// Asserts that the list is read as the values that `Debug` writes as this text, with this number
 /// of headers examined, and that they are emitted as the canonical list.
 fn is_nested_list(
@@ -114,6 +128,7 @@ fn is_nested_list(
 fn lists_of_mappings(rt: HostRuntime) {
     let alloc = rt.alloc();
     is_nested_list(&rt, alloc, LIST, TEXT, 6, LIST);
+    is_nested_list(&rt, alloc, REPLY, REPLY_TEXT, 9, REPLY);
     // An attribute inside of a type without a row is kept with its flag bits.
     is_nested_list(
         &rt,
@@ -129,6 +144,13 @@ fn lists_of_mappings(rt: HostRuntime) {
     let text = "[IngressQos(Nlas { items: [Mapping((1, 5))] })]";
     is_nested_list(&rt, alloc, &flagged, text, 2, &canonical);
     list_is_written_as::<InfoVlan>(&rt, (), &flagged, &canonical);
+    let flagged = [16, 0, 3, 0x80, 12, 0, 1, 0x40, 1, 0, 0, 0, 5, 0, 0, 0];
+    let canonical = [16, 0, 3, 0, 12, 0, 1, 0, 1, 0, 0, 0, 5, 0, 0, 0];
+    list_is_written_as::<InfoVlan>(&rt, (), &flagged, &canonical);
+    // So of a number; and the list of nothing stays there.
+    let canonical = [6, 0, 1, 0, 7, 0, 0, 0];
+    list_is_written_as::<InfoVlan>(&rt, (), &[6, 0, 1, 0xc0, 7, 0], &canonical);
+    list_is_written_as::<InfoVlan>(&rt, (), &[4, 0, 3, 0], &[4, 0, 3, 0]);
 }
 
 #[test]
@@ -161,10 +183,14 @@ const OF_ID: DecodeError = DecodeError {
     cause: Cause::Length,
 };
 
-/// Lists that are rejected, with the error and the headers examined: a mapping of four bytes; a
-/// payload that is no list; and both errors, in either order.
+/// Lists that are rejected, with the error and the headers examined: a mapping of four bytes, also
+/// before a byte that is no header; a payload that is no list; and both errors, in either order.
 const REJECTED: &[(&[u8], Checked)] = &[
     (&[12, 0, 3, 0, 8, 0, 1, 0, 0, 0, 0, 0], (Err(OF_MAPPING), 2)),
+    (
+        &[13, 0, 3, 0, 8, 0, 1, 0, 0, 0, 0, 0, 1],
+        (Err(OF_MAPPING), 2),
+    ),
     (&[5, 0, 3, 0, 1, 0, 0, 0], (Err(HEADER), 1)),
     (&[8, 0, 4, 0, 3, 0, 1, 0], (Err(HEADER), 2)),
     (
@@ -211,23 +237,48 @@ fn has_only_length<F: LinkFamily<Context = ()>>(rt: &impl Abort, kind: u8, lengt
     }
 }
 
+/// Asserts that zeros of each length up to 70, as the payload of a type, are the list of nothing or
+/// no list.
+fn has_lists(rt: &impl Abort, kind: u8) {
+    let mut buffer = [0; 78];
+    for len in 0..=70 {
+        let end = with_zeros(rt, kind, len, &mut buffer);
+        let bytes = buffer.get(..end).expect(rt, "an attribute");
+        let wanted = match len {
+            0 => (Ok(()), 1),
+            1..=3 => (Err(HEADER), 1),
+            _ => (Err(HEADER), 2),
+        };
+        checks_list::<InfoVlan>(rt, (), bytes, wanted);
+    }
+}
+
+/// Asserts that of one attribute in a list of mappings, with zeros of each length up to 66, a
+/// mapping has eight bytes, and an attribute of a type without a row any number of them.
+fn has_mappings(rt: &impl Abort, kind: u8) {
+    let mut buffer = [0; 78];
+    for len in 4..=70 {
+        let end = with_zeros(rt, kind, len, &mut buffer);
+        buffer[4] = len;
+        buffer[6] = 1;
+        let mapping = if len == 12 { Ok(()) } else { Err(OF_MAPPING) };
+        let bytes = buffer.get(..end).expect(rt, "an attribute");
+        checks_list::<InfoVlan>(rt, (), bytes, (mapping, 2));
+        buffer[6] = 2;
+        let bytes = buffer.get(..end).expect(rt, "an attribute");
+        checks_list::<InfoVlan>(rt, (), bytes, (Ok(()), 2));
+    }
+}
+
 #[test]
 fn every_length(rt: HostRuntime) {
     has_only_length::<InfoVlan>(&rt, 1, 2);
     has_only_length::<InfoVlan>(&rt, 2, 8);
     has_only_length::<InfoVlan>(&rt, 5, 2);
     has_only_length::<VlanQosMapping>(&rt, 1, 8);
-    // Zeros are the list of nothing, or no list.
-    let mut buffer = [0; 78];
-    for len in 0..=70 {
-        let end = with_zeros(&rt, 3, len, &mut buffer);
-        let bytes = buffer.get(..end).expect(&rt, "an attribute");
-        let wanted = match len {
-            0 => (Ok(()), 1),
-            1..=3 => (Err(HEADER), 1),
-            _ => (Err(HEADER), 2),
-        };
-        checks_list::<InfoVlan>(&rt, (), bytes, wanted);
+    for kind in [3, 4] {
+        has_lists(&rt, kind);
+        has_mappings(&rt, kind);
     }
 }
 

@@ -208,4 +208,4 @@ impl<P: DataLayer> Nla for InfoDataOf<P> {
     }
 }
 
-impl<P: LinkLayer + PartialEq> ExactEq for InfoDataOf<P> {}
+impl<P: DataLayer> ExactEq for InfoDataOf<P> {}

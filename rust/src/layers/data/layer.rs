@@ -123,6 +123,8 @@ macro_rules! of_port {
 }
 
 impl<L: LinkLayer + Eq> DataLayer for L {
+    // End: written by tables/generate.
+
     fn data_listing(family: DataFamily) -> Option<Family> {
         match family {
             DataFamily::Lower(family) => PayloadFamily::<InfoDataOf<L>>::listing(family),

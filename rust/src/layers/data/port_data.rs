@@ -148,4 +148,4 @@ impl<P: DataLayer> Nla for InfoPortDataOf<P> {
     }
 }
 
-impl<P: LinkLayer + PartialEq> ExactEq for InfoPortDataOf<P> {}
+impl<P: DataLayer> ExactEq for InfoPortDataOf<P> {}

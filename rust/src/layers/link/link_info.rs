@@ -121,4 +121,4 @@ impl<P: DataLayer> Nla for LinkInfoOf<P> {
     }
 }
 
-impl<P: LinkLayer + PartialEq> ExactEq for LinkInfoOf<P> {}
+impl<P: DataLayer> ExactEq for LinkInfoOf<P> {}

@@ -117,7 +117,7 @@ where
 /// families.
 pub type VecLinkInfo = VecLinkInfoOf<Bytes>;
 
-impl<P: LinkLayer + PartialEq> ExactEq for VecLinkInfoOf<P> {}
+impl<P: DataLayer> ExactEq for VecLinkInfoOf<P> {}
 
 impl<P: LinkLayer> VecLinkInfoOf<P> {
     /// Returns the `Vec` of the attributes.

@@ -168,12 +168,21 @@ fn placed_unmet<P: DataLayer>(
     if !is_same_kind(role, had, wanted) {
         return Some(whole(placed, Some(found.offset)));
     }
+    role_unmet::<P>(role, found, placed)
+}
+
+/// What of an attribute another one of its type and role does not meet.
+fn role_unmet<P: DataLayer>(
+    role: Role,
+    have: &PlacedNla<'_>,
+    want: &PlacedNla<'_>,
+) -> Option<Unmet> {
     match role {
-        Role::Data(tag) => data_unmet::<InfoDataOf<P>, DataFamily>(family_of(tag), found, placed),
+        Role::Data(tag) => data_unmet::<InfoDataOf<P>, DataFamily>(family_of(tag), have, want),
         Role::PortData(tag) => {
-            data_unmet::<InfoPortDataOf<P>, PortFamily>(port_family_of(tag), found, placed)
+            data_unmet::<InfoPortDataOf<P>, PortFamily>(port_family_of(tag), have, want)
         }
-        _ => item_unmet::<P>(role, found, placed),
+        _ => item_unmet::<P>(role, have, want),
     }
 }
 

@@ -40,3 +40,12 @@ impl<P: LinkPeer> LinkLayer for Typed<P> {
 
     type BridgePort = InfoBridgePort;
 }
+
+/// What the typed layer over peers that are kept as bytes defines.
+pub trait TypedFamilies {}
+
+/// The type that implements `TypedFamilies`. Only specifications name it: no call takes or returns
+/// it.
+pub struct OverBytes;
+
+impl TypedFamilies for OverBytes {}

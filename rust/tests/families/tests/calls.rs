@@ -9,7 +9,7 @@ use linkinfo::layers::nla_frame::{
     Cause, DecodeError, ExactEq, Family, HeaderCount, NlaBuffer, is_equal,
 };
 use linkinfo::layers::table::{
-    Datum, Decoded, Encodable, LinkFamily, Lookup, RowFamily, Shape, Slot, TableFamily, row_check,
+    Datum, Decoded, Encodable, LinkFamily, Lookup, RowFamily, Shape, Slot, row_check,
     row_emit_payload, row_emit_value, row_fit_len, row_kind, row_read, row_same, row_store,
     row_value_len, table_lookup, typed_lookup,
 };
@@ -36,18 +36,14 @@ fn are_equal<F: ExactEq>(list: &[F], value: &F) -> bool {
 
 /// Asserts that the attribute is read as the value by its row and by its family, alone and into a
 /// list.
-fn is_read_by_row<F: TableFamily<Custom = ()> + ExactEq>(
-    bytes: &[u8],
-    ctx: <F as RowFamily>::Context,
-    value: &F,
-) {
+fn is_read_by_row(bytes: &[u8], value: &InfoXfrm) {
     let nla = &attribute(bytes);
-    let read = row_read::<F>(nla, ctx).expect("a value");
+    let read = row_read::<InfoXfrm>(nla, ()).expect("a value");
     let mut count = HeaderCount::new();
-    let again = F::read(nla, ctx, &mut count).expect("a value");
+    let again = InfoXfrm::read(nla, (), &mut count).expect("a value");
     let mut list = Vec::new();
-    row_store::<F, Vec<F>>(&mut list, nla, ctx).expect("a value");
-    F::push(&mut list, nla, ctx, &mut count).expect("a value");
+    row_store::<InfoXfrm, Vec<InfoXfrm>>(&mut list, nla, ()).expect("a value");
+    InfoXfrm::push(&mut list, nla, (), &mut count).expect("a value");
     assert_is(
         ("row_read, read, row_store and push", bytes),
         [
@@ -60,16 +56,12 @@ fn is_read_by_row<F: TableFamily<Custom = ()> + ExactEq>(
 }
 
 /// Asserts that the attribute is rejected with this error by its row.
-fn is_rejected_by_row<F: TableFamily<Custom = ()>>(
-    bytes: &[u8],
-    ctx: <F as RowFamily>::Context,
-    expected: DecodeError,
-) {
+fn is_rejected_by_row(bytes: &[u8], expected: DecodeError) {
     let nla = &attribute(bytes);
     let found = [
-        row_read::<F>(nla, ctx).err(),
-        row_check::<F>(nla, ctx).err(),
-        F::check_value(nla, ctx, &mut HeaderCount::new()).err(),
+        row_read::<InfoXfrm>(nla, ()).err(),
+        row_check::<InfoXfrm>(nla, ()).err(),
+        InfoXfrm::check_value(nla, (), &mut HeaderCount::new()).err(),
     ];
     assert_is(("rejected", bytes), found, [Some(expected); 3]);
 }
@@ -77,37 +69,30 @@ fn is_rejected_by_row<F: TableFamily<Custom = ()>>(
 #[test]
 fn reads_by_rows() {
     let value = InfoXfrm::Link(0x0102_0304);
-    is_read_by_row(LINK, (), &value);
-    is_read_by_row(MARKED, (), &value);
+    is_read_by_row(LINK, &value);
+    is_read_by_row(MARKED, &value);
     let other = InfoXfrm::Other(kept(0x8003, &[7]));
-    is_read_by_row(&[5, 0, 3, 0x80, 7], (), &other);
+    is_read_by_row(&[5, 0, 3, 0x80, 7], &other);
     let expected = error(Family::Xfrm, 1, Cause::Length);
-    is_rejected_by_row::<InfoXfrm>(SHORT, (), expected);
+    is_rejected_by_row(SHORT, expected);
 }
 
 /// The attribute of the bytes, which its row accepts.
-fn accepted<'a, F: TableFamily<Custom = ()>>(
-    ctx: <F as RowFamily>::Context,
-    bytes: &'a [u8],
-) -> NlaBuffer<'a> {
+fn accepted<'a>(bytes: &'a [u8]) -> NlaBuffer<'a> {
     let nla = attribute(bytes);
-    F::check_value(&nla, ctx, &mut HeaderCount::new()).expect("an accepted attribute");
-    row_check::<F>(&nla, ctx).expect("an accepted attribute");
+    InfoXfrm::check_value(&nla, (), &mut HeaderCount::new()).expect("an accepted attribute");
+    row_check::<InfoXfrm>(&nla, ()).expect("an accepted attribute");
     nla
 }
 
 /// Whether two accepted attributes are equivalent, by their row and by their family.
-fn same_by_row<F: TableFamily<Custom = ()>>(
-    ctx: <F as RowFamily>::Context,
-    a: &[u8],
-    b: &[u8],
-) -> [bool; 2] {
-    let a = accepted::<F>(ctx, a);
-    let b = accepted::<F>(ctx, b);
+fn same_by_row(a: &[u8], b: &[u8]) -> [bool; 2] {
+    let a = accepted(a);
+    let b = accepted(b);
     let mut count = HeaderCount::new();
     [
-        row_same::<F>(&a, &b, ctx),
-        F::same_value(&a, &b, ctx, &mut count),
+        row_same::<InfoXfrm>(&a, &b, ()),
+        InfoXfrm::same_value(&a, &b, (), &mut count),
     ]
 }
 
@@ -116,9 +101,9 @@ fn compares_by_rows() {
     assert_is(
         "same_by_row",
         [
-            same_by_row::<InfoXfrm>((), LINK, LINK),
-            same_by_row::<InfoXfrm>((), LINK, MARKED),
-            same_by_row::<InfoXfrm>((), LINK, OTHER_LINK),
+            same_by_row(LINK, LINK),
+            same_by_row(LINK, MARKED),
+            same_by_row(LINK, OTHER_LINK),
         ],
         [[true; 2], [true; 2], [false; 2]],
     );
@@ -126,12 +111,7 @@ fn compares_by_rows() {
 
 /// Asserts that the value is written with this type and this payload of four bytes by its row, also
 /// to a buffer of six 255s.
-fn is_written_by_row<F: TableFamily<Custom = ()>>(
-    value: &F,
-    kind: u16,
-    payload: &[u8],
-    buffer: &[u8],
-) {
+fn is_written_by_row(value: &InfoXfrm, kind: u16, payload: &[u8], buffer: &[u8]) {
     let len = row_fit_len(value).expect("a value that fits");
     assert_is(
         ("kind, fit_len, value_len of type", kind),

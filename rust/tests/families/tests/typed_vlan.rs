@@ -93,6 +93,20 @@ const LIST: &[u8] = &[
 const TEXT: &str = "[Id(100), EgressQos(Nlas { items: [Mapping((1, 5)), Mapping((2, 6))] }), \
                     IngressQos(Nlas { items: [] }), Protocol(Ieee8021Ad)]";
 
+/// The data of a vlan link, as a kernel returns it: a protocol, an ID, flags under a mask, and two
+/// mappings of received and of sent frames.
+const REPLY: &[u8] = &[
+    6, 0, 5, 0, 0x88, 0xa8, 0, 0, 6, 0, 1, 0, 7, 0, 0, 0, 12, 0, 2, 0, 14, 0, 0, 0, 255, 255, 255,
+    255, 28, 0, 4, 0, 12, 0, 1, 0, 2, 0, 0, 0, 5, 0, 0, 0, 12, 0, 1, 0, 6, 0, 0, 0, 7, 0, 0, 0, 28,
+    0, 3, 0, 12, 0, 1, 0, 1, 0, 0, 0, 2, 0, 0, 0, 12, 0, 1, 0, 3, 0, 0, 0, 4, 0, 0, 0,
+];
+
+/// `REPLY` as `Debug` writes it.
+const REPLY_TEXT: &str = "[Protocol(Ieee8021Ad), Id(7), \
+                          Flags((VlanFlags(14), VlanFlags(4294967295))), \
+                          IngressQos(Nlas { items: [Mapping((2, 5)), Mapping((6, 7))] }), \
+                          EgressQos(Nlas { items: [Mapping((1, 2)), Mapping((3, 4))] })]";
+
 /// Asserts that the list is read as the values that `Debug` writes as this text, with this number
 /// of headers examined, and that they are emitted as the canonical list.
 fn is_nested_list(bytes: &[u8], text: &str, headers: usize, canonical: &[u8]) {
@@ -107,6 +121,7 @@ fn is_nested_list(bytes: &[u8], text: &str, headers: usize, canonical: &[u8]) {
 #[test]
 fn lists_of_mappings() {
     is_nested_list(LIST, TEXT, 6, LIST);
+    is_nested_list(REPLY, REPLY_TEXT, 9, REPLY);
     // An attribute inside of a type without a row is kept with its flag bits.
     is_nested_list(
         &[9, 0, 3, 0, 5, 0, 2, 0x80, 7],
@@ -120,6 +135,13 @@ fn lists_of_mappings() {
     let text = "[IngressQos(Nlas { items: [Mapping((1, 5))] })]";
     is_nested_list(&flagged, text, 2, &canonical);
     list_is_written_as::<InfoVlan>((), &flagged, &canonical);
+    let flagged = [16, 0, 3, 0x80, 12, 0, 1, 0x40, 1, 0, 0, 0, 5, 0, 0, 0];
+    let canonical = [16, 0, 3, 0, 12, 0, 1, 0, 1, 0, 0, 0, 5, 0, 0, 0];
+    list_is_written_as::<InfoVlan>((), &flagged, &canonical);
+    // So of a number; and the list of nothing stays there.
+    let canonical = [6, 0, 1, 0, 7, 0, 0, 0];
+    list_is_written_as::<InfoVlan>((), &[6, 0, 1, 0xc0, 7, 0], &canonical);
+    list_is_written_as::<InfoVlan>((), &[4, 0, 3, 0], &[4, 0, 3, 0]);
 }
 
 #[test]
@@ -151,10 +173,14 @@ const OF_ID: DecodeError = DecodeError {
     cause: Cause::Length,
 };
 
-/// Lists that are rejected, with the error and the headers examined: a mapping of four bytes; a
-/// payload that is no list; and both errors, in either order.
+/// Lists that are rejected, with the error and the headers examined: a mapping of four bytes, also
+/// before a byte that is no header; a payload that is no list; and both errors, in either order.
 const REJECTED: &[(&[u8], Checked)] = &[
     (&[12, 0, 3, 0, 8, 0, 1, 0, 0, 0, 0, 0], (Err(OF_MAPPING), 2)),
+    (
+        &[13, 0, 3, 0, 8, 0, 1, 0, 0, 0, 0, 0, 1],
+        (Err(OF_MAPPING), 2),
+    ),
     (&[5, 0, 3, 0, 1, 0, 0, 0], (Err(HEADER), 1)),
     (&[8, 0, 4, 0, 3, 0, 1, 0], (Err(HEADER), 2)),
     (
@@ -201,16 +227,12 @@ fn has_only_length<F: LinkFamily<Context = ()>>(kind: u8, length: u8) {
     }
 }
 
-#[test]
-fn every_length() {
-    has_only_length::<InfoVlan>(1, 2);
-    has_only_length::<InfoVlan>(2, 8);
-    has_only_length::<InfoVlan>(5, 2);
-    has_only_length::<VlanQosMapping>(1, 8);
-    // Zeros are the list of nothing, or no list.
+/// Asserts that zeros of each length up to 70, as the payload of a type, are the list of nothing or
+/// no list.
+fn has_lists(kind: u8) {
     let mut buffer = [0; 78];
     for len in 0..=70 {
-        let end = with_zeros(3, len, &mut buffer);
+        let end = with_zeros(kind, len, &mut buffer);
         let bytes = buffer.get(..end).expect("an attribute");
         let wanted = match len {
             0 => (Ok(()), 1),
@@ -218,6 +240,35 @@ fn every_length() {
             _ => (Err(HEADER), 2),
         };
         checks_list::<InfoVlan>((), bytes, wanted);
+    }
+}
+
+/// Asserts that of one attribute in a list of mappings, with zeros of each length up to 66, a
+/// mapping has eight bytes, and an attribute of a type without a row any number of them.
+fn has_mappings(kind: u8) {
+    let mut buffer = [0; 78];
+    for len in 4..=70 {
+        let end = with_zeros(kind, len, &mut buffer);
+        buffer[4] = len;
+        buffer[6] = 1;
+        let mapping = if len == 12 { Ok(()) } else { Err(OF_MAPPING) };
+        let bytes = buffer.get(..end).expect("an attribute");
+        checks_list::<InfoVlan>((), bytes, (mapping, 2));
+        buffer[6] = 2;
+        let bytes = buffer.get(..end).expect("an attribute");
+        checks_list::<InfoVlan>((), bytes, (Ok(()), 2));
+    }
+}
+
+#[test]
+fn every_length() {
+    has_only_length::<InfoVlan>(1, 2);
+    has_only_length::<InfoVlan>(2, 8);
+    has_only_length::<InfoVlan>(5, 2);
+    has_only_length::<VlanQosMapping>(1, 8);
+    for kind in [3, 4] {
+        has_lists(kind);
+        has_mappings(kind);
     }
 }
 

@@ -1,0 +1,128 @@
+-- Attributes whose payload is a list of attributes of another family.
+use Rattle.std.specs.Prelude.{
+  ◌≡◌,
+  ◌==◌,
+  ◌&&◌,
+  ℕ,
+  Bool,
+  if◌then◌else◌,
+  List,
+  [],
+  ◌∷◌,
+  Result,
+  Ok,
+  Err,
+  map,
+  refl,
+}
+use Rattle.std.proofs.Common.{ap, subst, sym, ◌∙◌}
+use Rattle.nla_frame.specs.Attribute.{Attribute, list_string, masked}
+use Rattle.nla_frame.specs.NlaItems.{nla_items}
+use Rattle.nla_frame.specs.declared.default_nla.DefaultNla.{DefaultNla}
+use Rattle.nla_frame.specs.declared.error.DecodeError.{DecodeError}
+use Rattle.nla_frame.specs.declared.error.Family.{Family}
+use Rattle.linkinfo_shapes.specs.declared.shape.Shape.{Shape}
+use Rattle.linkinfo_table.specs.ByRows.{members_by_rows}
+use Rattle.linkinfo_table.specs.CustomRows.{headers_either}
+use Rattle.linkinfo_table.specs.FamilyRows.{FamilyRow, row_of}
+use Rattle.linkinfo_table.specs.Lists.{◌>>=◌, alike_pairs, headers_of, values}
+use Rattle.linkinfo_table.specs.Members.{Members, list_of}
+use Rattle.linkinfo_table.specs.Rows.{alike_in, labelled, meaning_in, row_alike, row_meaning}
+use Rattle.linkinfo_table.specs.SelfList.{inside}
+use Rattle.linkinfo_table.specs.TypedRows.{HasPayload}
+
+-- In the family `f` an attribute of type `number` holds a list of attributes of the family `inner`.
+pub record HoldsListOf {X Y : Type 0} (f : Members X) (inner : Members Y) (number kind : ℕ)
+    (label : List Y → X) : Type 0 where
+  -- it means what the attributes in its payload mean, in order, or has the first error in it
+  pub means : (a : Attribute) → masked a.kind ≡ number →
+      f.meaning a ≡ (values inner.meaning (nla_items a.value) >>= λ xs. Ok (label xs))
+  -- the headers in its payload are counted
+  pub headers : (a : Attribute) → masked a.kind ≡ number →
+      f.headers a ≡ headers_of inner.meaning inner.headers (nla_items a.value)
+  -- it is equivalent to one of its type with a list of equivalent attributes, in order
+  pub alike : (a b : Attribute) → masked a.kind ≡ number →
+      f.alike a b
+      ≡ ((masked b.kind == number)
+      && alike_pairs inner.alike (nla_items a.value) (nla_items b.value))
+  -- it is written with the type `kind`, and the canonical encoding of the list
+  pub written : (xs : List Y) →
+      f.attribute (label xs)
+      ≡ record { kind = kind; value = list_string (map inner.attribute xs) }
+
+-- ---- it does by its row
+
+module _ {X Y : Type 0} (family : Family) (other : DefaultNla → X) (rows : ℕ → FamilyRow X)
+    (inner : Members Y) (shape : Shape) (nested : Bool) (number : ℕ) (label : List Y → X)
+    (row : HasPayload (rows number) shape nested (list_of inner) label)
+    (a : Attribute) (typed : masked a.kind ≡ number) where
+  labels : (k : ℕ) (r : Result (List Y) DecodeError) →
+      labelled family k label (inside r) ≡ (r >>= λ xs. Ok (label xs))
+  labels k (Ok xs) = refl
+  labels k (Err e) = refl
+
+  pub row_means :
+      meaning_in family other (λ n. row_of (rows n)) a
+      ≡ (values inner.meaning (nla_items a.value) >>= λ xs. Ok (label xs))
+  unfolding meaning_in
+  row_means =
+      subst (λ (n : ℕ). row_meaning family other (row_of (rows n)) a
+      ≡ (values inner.meaning (nla_items a.value) >>= λ xs. Ok (label xs))) (sym typed)
+      (row.means family other a ∙ labels (masked a.kind) (values inner.meaning (nla_items a.value)))
+
+  pub row_is_alike : (b : Attribute) →
+      alike_in (λ n. row_of (rows n)) a b
+      ≡ ((masked b.kind == number)
+      && alike_pairs inner.alike (nla_items a.value) (nla_items b.value))
+  unfolding alike_in
+  row_is_alike b =
+      subst (λ (n : ℕ). row_alike (row_of (rows n)) a b
+      ≡ ((masked b.kind == number) && alike_pairs inner.alike (nla_items a.value)
+      (nla_items b.value))) (sym typed)
+      (row.alike a b
+      ∙ ap (λ (n : ℕ). (masked b.kind == n)
+      && alike_pairs inner.alike (nla_items a.value) (nla_items b.value)) typed)
+
+-- the headers in a payload that is a list of attributes of a family
+abbrev pub headers_in : {Y : Type 0} → Members Y → List ℕ → ℕ
+headers_in inner p = headers_of inner.meaning inner.headers (nla_items p)
+
+-- the types of a family with such payloads, in order, and the headers in these
+abbrev pub headers_by : List (ℕ × (List ℕ → ℕ)) → Attribute → ℕ
+headers_by [] a = 0
+headers_by (row ∷ rows) a = headers_either row.0 row.1 (headers_by rows) a
+
+abbrev pub first_of_type : List (ℕ × (List ℕ → ℕ)) → ℕ → List ℕ → ℕ
+first_of_type [] number p = 0
+first_of_type (row ∷ rows) number p =
+    if number == row.0 then row.1 p else first_of_type rows number p
+
+pub row_headers_are : (rows : List (ℕ × (List ℕ → ℕ))) (a : Attribute) (number : ℕ) →
+    masked a.kind ≡ number → headers_by rows a ≡ first_of_type rows number a.value
+row_headers_are rows a number typed =
+    subst (λ (n : ℕ). headers_by rows a ≡ first_of_type rows n a.value) typed (go rows)
+  where
+    go : (rows : List (ℕ × (List ℕ → ℕ))) →
+        headers_by rows a ≡ first_of_type rows (masked a.kind) a.value
+    go [] = refl
+    go (row ∷ rows) =
+        ap (λ (others : ℕ). if masked a.kind == row.0 then row.1 a.value else others) (go rows)
+
+-- an attribute of a row with such a payload holds the list
+pub holds_list : {X Y : Type 0} (family : Family) (other : DefaultNla → X)
+    (attribute : X → Attribute) (rows : ℕ → FamilyRow X) (lists : List (ℕ × (List ℕ → ℕ)))
+    (inner : Members Y) (shape : Shape) (nested : Bool) (number kind : ℕ) (label : List Y → X) →
+    HasPayload (rows number) shape nested (list_of inner) label →
+    ((p : List ℕ) → first_of_type lists number p ≡ headers_in inner p) →
+    ((xs : List Y) →
+    attribute (label xs) ≡ record { kind = kind; value = list_string (map inner.attribute xs) }) →
+    HoldsListOf (members_by_rows family other attribute rows (headers_by lists)) inner number kind
+    label
+holds_list family other attribute rows lists inner shape nested number kind label row count keeps =
+    record {
+      means = row_means family other rows inner shape nested number label row;
+      headers = λ a typed. row_headers_are lists a number typed ∙ count a.value;
+      alike = λ a b typed.
+          row_is_alike family other rows inner shape nested number label row a typed b;
+      written = keeps;
+    }
