@@ -17,6 +17,7 @@ mod link_info;
 mod list;
 mod placed;
 mod role;
+pub mod typed;
 mod unmet;
 pub mod unmet_laws;
 mod walk;

@@ -22,7 +22,7 @@ use Rattle.nla_frame.specs.declared.default_nla.DefaultNla.{DefaultNla}
 use Rattle.nla_frame.specs.declared.error.DecodeError.{DecodeError}
 use Rattle.nla_frame.specs.declared.error.Family.{Family}
 use Rattle.linkinfo_shapes.specs.declared.shape.Shape.{Shape}
-use Rattle.linkinfo_table.specs.ByRows.{members_by_rows}
+use Rattle.linkinfo_table.specs.ByRows.{members_written_by_rows}
 use Rattle.linkinfo_table.specs.CustomRows.{headers_either}
 use Rattle.linkinfo_table.specs.FamilyRows.{FamilyRow, row_of}
 use Rattle.linkinfo_table.specs.Lists.{◌>>=◌, alike_pairs, headers_of, values}
@@ -109,15 +109,16 @@ row_headers_are rows a number typed =
         ap (λ (others : ℕ). if masked a.kind == row.0 then row.1 a.value else others) (go rows)
 
 -- an attribute of a row with such a payload holds the list
-pub holds_list : {X Y : Type 0} (family : Family) (other : DefaultNla → X)
+pub holds_list : {X Y : Type 0} {within : List Family} (family : Family) (other : DefaultNla → X)
     (attribute : X → Attribute) (rows : ℕ → FamilyRow X) (lists : List (ℕ × (List ℕ → ℕ)))
     (inner : Members Y) (shape : Shape) (nested : Bool) (number kind : ℕ) (label : List Y → X) →
     HasPayload (rows number) shape nested (list_of inner) label →
     ((p : List ℕ) → first_of_type lists number p ≡ headers_in inner p) →
     ((xs : List Y) →
     attribute (label xs) ≡ record { kind = kind; value = list_string (map inner.attribute xs) }) →
-    HoldsListOf (members_by_rows family other attribute rows (headers_by lists)) inner number kind
-    label
+    HoldsListOf
+    (members_written_by_rows family other attribute rows attribute (headers_by lists) within) inner
+    number kind label
 holds_list family other attribute rows lists inner shape nested number kind label row count keeps =
     record {
       means = row_means family other rows inner shape nested number label row;

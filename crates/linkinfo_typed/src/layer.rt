@@ -19,7 +19,7 @@ use std::marker::PhantomData;
 /// opaque.
 ///
 /// A list of links with such attributes is `VecLinkInfoOf<Typed<Bytes>>`.
-#[derive(Clone, Debug, PartialEq, Eq)]
+#[derive(Clone, Debug, PartialEq, Eq, Drop)]
 pub struct Typed<P> {
     of: PhantomData<P>,
 }

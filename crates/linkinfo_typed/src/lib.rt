@@ -7,8 +7,8 @@ mod qos;
 mod vlan;
 // End: written by tables/generate.
 
-mod layer;
 pub mod laws;
+mod layer;
 
 // Begin: written by tables/generate from tables/families (types).
 pub use qos::VlanQosMapping;

@@ -1,0 +1,136 @@
+//! Lists over the typed layer, by the names of the crate's root: the attributes of `vlan` links have
+//! types here, and so have the priority maps in them.
+//!
+//! ```text
+//! use linkinfo::typed::{self, InfoData, InfoVlan, LinkInfo, VecLinkInfo};
+//!
+//! let list = VecLinkInfo::parse(alloc, &received)?;
+//! typed::check(&received)?; // also rejects a VLAN ID of one byte
+//! ```
+//!
+//! A list that is accepted here is accepted by the calls of the root, which keep these attributes
+//! verbatim, and it has the same canonical encoding there if it is a reply of a kernel.
+
+ghost use Rattle.std.specs.Prelude.{◌≡◌, ◌≢◌, ◌↔◌, ◌≤◌, drop, length, take, IfErr, IfOk, IsOk, IsTrue, MatchResult, OnErr};
+ghost use Rattle.nla_frame.specs.Answers.{verdict};
+ghost use Rattle.nla_frame.specs.Error.{memory_error};
+ghost use Rattle.linkinfo.specs.Canon.{CanonIsCertain, CanonRefuses, IntoRefuses, IsCanonical};
+ghost use Rattle.linkinfo.specs.Comparing.{either_error, placed_answer, same_answer};
+ghost use Rattle.linkinfo.specs.Difference.{strings_difference};
+ghost use Rattle.linkinfo.specs.Items.{link_attribute};
+ghost use Rattle.linkinfo.specs.Placed.{IsErrorAt, IsRejectedAt};
+ghost use Rattle.linkinfo.specs.Strings.{alike_strings, reading};
+ghost use Rattle.linkinfo.specs.Unmet.{strings_unmet, unmet_answer};
+ghost use Rattle.linkinfo_typed.specs.TypedLayer.{typed_layer};
+
+use crate::canonical::{CanonError, canon_of};
+use crate::canonical_into::{CanonIntoError, canon_into_of};
+use crate::difference::first_difference_of;
+use crate::link_info::LinkInfoOf;
+use crate::list::{VecLinkInfoOf, check_of, same_of};
+use crate::placed::{ErrorAt, ErrorIn, check_at_of};
+use crate::unmet::first_unmet_of;
+use linkinfo_data::{Difference, InfoDataOf, InfoPortDataOf, Unmet};
+pub use linkinfo_typed::{InfoVlan, Typed, VlanQosMapping};
+use nla_frame::{Bytes, DecodeError};
+use std::alloc::Global;
+
+/// The contents of `IFLA_LINKINFO`, over the typed layer, with peers kept as bytes.
+pub type VecLinkInfo = VecLinkInfoOf<Typed<Bytes>>;
+
+/// An attribute in `IFLA_LINKINFO`, over the typed layer, with peers kept as bytes.
+pub type LinkInfo = LinkInfoOf<Typed<Bytes>>;
+
+/// The data of a link (`IFLA_INFO_DATA`), over the typed layer, with peers kept as bytes.
+pub type InfoData = InfoDataOf<Typed<Bytes>>;
+
+/// The data of a port (`IFLA_INFO_SLAVE_DATA`), over the typed layer.
+pub type InfoPortData = InfoPortDataOf<Typed<Bytes>>;
+
+/// Validates the contents of `IFLA_LINKINFO` as `check_of` does, over the typed layer. Does not
+/// allocate.
+pub fn check(bytes: &[u8]) -> Result<(), DecodeError>
+    ensures answer { result ≡ verdict (reading typed_layer bytes.now) }
+    ensures no_memory { result ≢ Err memory_error }
+{
+    check_of::<Typed<Bytes>>(bytes)
+}
+
+/// Validates the contents of `IFLA_LINKINFO` as `check` does, and returns the offsets of the error
+/// beside it, as `check_at_of` does. Does not allocate.
+pub fn check_at(bytes: &[u8]) -> Result<(), ErrorAt>
+    ensures answer { MatchResult result (λ _. IsOk (reading typed_layer bytes.now))
+        (λ at. reading typed_layer bytes.now ≡ Err at.error) }
+    ensures place { IfErr result (λ at. IsRejectedAt typed_layer bytes.now at.error at.place) }
+    ensures inner { IfErr result (λ at. IsErrorAt typed_layer bytes.now at.error at.place at.inner) }
+{
+    check_at_of::<Typed<Bytes>>(bytes)
+}
+
+/// Returns whether two lists are equivalent, as `same_of` does, over the typed layer. The error is
+/// that of the first list, otherwise that of the second. Does not allocate.
+pub fn same(a: &[u8], b: &[u8]) -> Result<bool, DecodeError>
+    ensures answer { result
+        ≡ same_answer (reading typed_layer a.now) (reading typed_layer b.now)
+        (alike_strings typed_layer a.now b.now) }
+    ensures no_memory { result ≢ Err memory_error }
+
+    // Equivalent byte strings are those that mean equal lists.
+    ensures equal { IfOk result
+        (λ same. IsTrue same ↔ (reading typed_layer a.now ≡ reading typed_layer b.now)) }
+{
+    same_of::<Typed<Bytes>>(a, b)
+}
+
+/// Returns the first attribute of the list `want` that the list `have` does not meet, as
+/// `first_unmet_of` does, over the typed layer. Does not allocate.
+pub fn first_unmet(have: &[u8], want: &[u8]) -> Result<Option<Unmet>, ErrorIn>
+    ensures answer { result
+        ≡ unmet_answer (reading typed_layer have.now) (reading typed_layer want.now)
+        (strings_unmet typed_layer have.now want.now) }
+    ensures no_memory { IfErr result (λ at. either_error at ≢ memory_error) }
+{
+    first_unmet_of::<Typed<Bytes>>(have, want)
+}
+
+/// Returns the first pair of attributes in which two lists differ, as `first_difference_of` does,
+/// over the typed layer. Does not allocate.
+pub fn first_difference(a: &[u8], b: &[u8]) -> Result<Option<Difference>, ErrorIn>
+    ensures answer { result
+        ≡ placed_answer (reading typed_layer a.now) (reading typed_layer b.now)
+        (strings_difference typed_layer a.now b.now) }
+    ensures no_memory { IfErr result (λ at. either_error at ≢ memory_error) }
+{
+    first_difference_of::<Typed<Bytes>>(a, b)
+}
+
+/// Returns the canonical encoding of the list that `bytes` encodes, as `canon_of` does, over the
+/// typed layer.
+pub fn canon(alloc: Global, bytes: &[u8]) -> Result<Vec<u8>, CanonError>
+    ensures string { IfOk result
+        (λ canonical.
+        IsCanonical (link_attribute typed_layer) (reading typed_layer bytes.now) canonical.items) }
+    ensures refused { IfErr result
+        (CanonRefuses (link_attribute typed_layer) (reading typed_layer bytes.now)) }
+    ensures certain { CanonIsCertain (link_attribute typed_layer) (reading typed_layer bytes.now)
+        result }
+{
+    canon_of::<Typed<Bytes>>(alloc, bytes)
+}
+
+/// Writes the canonical encoding of the list that `bytes` encodes to the front of the buffer, and
+/// returns its length in bytes, as `canon_into_of` does, over the typed layer. Does not allocate.
+pub fn canon_into(bytes: &[u8], buffer: &mut [u8]) -> Result<usize, CanonIntoError>
+    ensures string { IfOk result
+        (λ n.
+        IsCanonical (link_attribute typed_layer) (reading typed_layer bytes.now)
+        (take n buffer.new)) }
+    ensures within { IfOk result (λ n. n ≤ length buffer.old) }
+    ensures after { IfOk result (λ n. drop n buffer.new ≡ drop n buffer.old) }
+    ensures refused { IfErr result
+        (IntoRefuses (link_attribute typed_layer) (reading typed_layer bytes.now)
+        (length buffer.old)) }
+    ensures unchanged { OnErr result (buffer.new ≡ buffer.old) }
+{
+    canon_into_of::<Typed<Bytes>>(bytes, buffer)
+}
