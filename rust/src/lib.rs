@@ -132,6 +132,8 @@ pub use layers::link::{
     LinkInfo, LinkInfoItem, LinkInfoOf, LinkInfoWalk, LinkXstats, VecLinkInfo, VecLinkInfoOf,
 };
 #[doc(inline)]
+pub use layers::link::typed;
+#[doc(inline)]
 pub use layers::nla_frame::{Bytes, DefaultNla, Nlas, Text, emit_nlas, nlas_fit_len};
 #[doc(inline)]
 pub use layers::numbers::{

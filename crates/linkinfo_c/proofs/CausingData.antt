@@ -303,8 +303,8 @@ peers_errors peered.Tun p =
     (table_errors _ _ [] p)
 peers_errors peered.Veth p =
     variant_errors (λ x. info.Veth x)
-    (first_meaning (veth_members bytes_peer).meaning (nla_items p))
-    (first_errors (veth_members bytes_peer).meaning
+    (first_meaning (veth_members bytes_layer.peer).meaning (nla_items p))
+    (first_errors (veth_members bytes_layer.peer).meaning
     (λ a.
     rows_errors family.Veth _ _
     (λ n.
@@ -314,8 +314,9 @@ peers_errors peered.Wireguard p =
     variant_errors (λ xs. info.Wireguard xs) (values plain.wireguard.meaning (nla_items p))
     (table_errors _ _ [] p)
 peers_errors peered.Netkit p =
-    variant_errors (λ xs. info.Netkit xs) (values (netkit_members bytes_peer).meaning (nla_items p))
-    (list_errors (netkit_members bytes_peer).meaning
+    variant_errors (λ xs. info.Netkit xs)
+    (values (netkit_members bytes_layer.peer).meaning (nla_items p))
+    (list_errors (netkit_members bytes_layer.peer).meaning
     (λ a.
     rows_errors family.Netkit _ _
     (λ n.
@@ -323,8 +324,8 @@ peers_errors peered.Netkit p =
     (table_rows (netkit_plain {P = Bytes}) n)) a) (nla_items p))
 peers_errors peered.Vxcan p =
     variant_errors (λ x. info.Vxcan x)
-    (first_meaning (vxcan_members bytes_peer).meaning (nla_items p))
-    (first_errors (vxcan_members bytes_peer).meaning
+    (first_meaning (vxcan_members bytes_layer.peer).meaning (nla_items p))
+    (first_errors (vxcan_members bytes_layer.peer).meaning
     (λ a.
     rows_errors family.Vxcan _ _
     (λ n.

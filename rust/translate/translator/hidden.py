@@ -2,7 +2,7 @@
 
 from .items import item_front
 
-NAMES = ("ListedFamily", "Plain", "PlainFamilies")
+NAMES = ("ListedFamily", "OverBytes", "Plain", "PlainFamilies", "TypedFamilies")
 DEFINING = ("struct", "trait")
 
 

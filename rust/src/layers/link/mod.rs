@@ -17,6 +17,7 @@ mod link_info;
 mod list;
 mod placed;
 mod role;
+pub mod typed;
 mod unmet;
 mod walk;
 mod xstats;

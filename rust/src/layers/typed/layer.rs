@@ -42,10 +42,12 @@ impl<P: LinkPeer> LinkLayer for Typed<P> {
 }
 
 /// What the typed layer over peers that are kept as bytes defines.
+#[doc(hidden)]
 pub trait TypedFamilies {}
 
 /// The type that implements `TypedFamilies`. Only specifications name it: no call takes or returns
 /// it.
+#[doc(hidden)]
 pub struct OverBytes;
 
 impl TypedFamilies for OverBytes {}

@@ -1,0 +1,104 @@
+// @generated from crates/linkinfo/src/typed.rt by rust/translate/run.
+
+//! Lists over the typed layer, by the names of the crate's root: the attributes of `vlan` links
+//! have types here, and so have the priority maps in them.
+//!
+//! ```
+//! use linkinfo::typed::{self, InfoData, InfoVlan, LinkInfo, VecLinkInfo};
+//!
+//! // IFLA_INFO_KIND (1) "vlan", IFLA_INFO_DATA (2) with IFLA_VLAN_ID (1) 7
+//! let received = [
+//!     9, 0, 1, 0, b'v', b'l', b'a', b'n', 0, 0, 0, 0, 12, 0, 2, 0, 6, 0, 1, 0, 7, 0, 0, 0,
+//! ];
+//! let list = VecLinkInfo::parse(&received)?;
+//! assert_eq!(list[1], LinkInfo::Data(InfoData::Vlan([InfoVlan::Id(7)].into())));
+//! // The same with an ID of one byte.
+//! let mut short = received;
+//! short[16] = 5;
+//! assert_eq!(typed::check(&short).unwrap_err().to_string(), "vlan 1 length");
+//! # Ok::<(), linkinfo::DecodeError>(())
+//! ```
+//!
+//! A list that is accepted here is accepted by the calls of the root, which keep these attributes
+//! verbatim, and it has the same canonical encoding there if it is a reply of a kernel.
+
+use crate::layers::data::{Difference, InfoDataOf, InfoPortDataOf, Unmet};
+use crate::layers::link::canonical::{CanonError, canon_of};
+use crate::layers::link::canonical_into::{CanonIntoError, canon_into_of};
+use crate::layers::link::difference::first_difference_of;
+use crate::layers::link::link_info::LinkInfoOf;
+use crate::layers::link::list::{VecLinkInfoOf, check_of, same_of};
+use crate::layers::link::placed::{ErrorAt, ErrorIn, check_at_of};
+use crate::layers::link::unmet::first_unmet_of;
+use crate::layers::nla_frame::{Bytes, DecodeError};
+pub use crate::layers::typed::{InfoVlan, Typed, VlanQosMapping};
+use alloc::vec::Vec;
+
+/// The contents of `IFLA_LINKINFO`, over the typed layer, with peers kept as bytes.
+pub type VecLinkInfo = VecLinkInfoOf<Typed<Bytes>>;
+
+/// An attribute in `IFLA_LINKINFO`, over the typed layer, with peers kept as bytes.
+pub type LinkInfo = LinkInfoOf<Typed<Bytes>>;
+
+/// The data of a link (`IFLA_INFO_DATA`), over the typed layer, with peers kept as bytes.
+pub type InfoData = InfoDataOf<Typed<Bytes>>;
+
+/// The data of a port (`IFLA_INFO_SLAVE_DATA`), over the typed layer.
+pub type InfoPortData = InfoPortDataOf<Typed<Bytes>>;
+
+/// Validates the contents of `IFLA_LINKINFO` as [`check_of`] does, over the typed layer. Does not
+/// allocate.
+///
+/// [`check_of`]: crate::layers::link::check_of
+pub fn check(bytes: &[u8]) -> Result<(), DecodeError> {
+    check_of::<Typed<Bytes>>(bytes)
+}
+
+/// Validates the contents of `IFLA_LINKINFO` as [`check`] does, and returns the offsets of the
+/// error beside it, as [`check_at_of`] does. Does not allocate.
+///
+/// [`check`]: crate::layers::link::check
+/// [`check_at_of`]: crate::layers::link::check_at_of
+pub fn check_at(bytes: &[u8]) -> Result<(), ErrorAt> {
+    check_at_of::<Typed<Bytes>>(bytes)
+}
+
+/// Returns whether two lists are equivalent, as [`same_of`] does, over the typed layer. The error
+/// is that of the first list, otherwise that of the second. Does not allocate.
+///
+/// [`same_of`]: crate::layers::link::same_of
+pub fn same(a: &[u8], b: &[u8]) -> Result<bool, DecodeError> {
+    same_of::<Typed<Bytes>>(a, b)
+}
+
+/// Returns the first attribute of the list `want` that the list `have` does not meet, as
+/// [`first_unmet_of`] does, over the typed layer. Does not allocate.
+///
+/// [`first_unmet_of`]: crate::layers::link::first_unmet_of
+pub fn first_unmet(have: &[u8], want: &[u8]) -> Result<Option<Unmet>, ErrorIn> {
+    first_unmet_of::<Typed<Bytes>>(have, want)
+}
+
+/// Returns the first pair of attributes in which two lists differ, as [`first_difference_of`] does,
+/// over the typed layer. Does not allocate.
+///
+/// [`first_difference_of`]: crate::layers::link::first_difference_of
+pub fn first_difference(a: &[u8], b: &[u8]) -> Result<Option<Difference>, ErrorIn> {
+    first_difference_of::<Typed<Bytes>>(a, b)
+}
+
+/// Returns the canonical encoding of the list that `bytes` encodes, as [`canon_of`] does, over the
+/// typed layer.
+///
+/// [`canon_of`]: crate::layers::link::canon_of
+pub fn canon(bytes: &[u8]) -> Result<Vec<u8>, CanonError> {
+    canon_of::<Typed<Bytes>>(bytes)
+}
+
+/// Writes the canonical encoding of the list that `bytes` encodes to the front of the buffer, and
+/// returns its length in bytes, as [`canon_into_of`] does, over the typed layer. Does not allocate.
+///
+/// [`canon_into_of`]: crate::layers::link::canon_into_of
+pub fn canon_into(bytes: &[u8], buffer: &mut [u8]) -> Result<usize, CanonIntoError> {
+    canon_into_of::<Typed<Bytes>>(bytes, buffer)
+}
