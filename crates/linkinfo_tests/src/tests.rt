@@ -29,6 +29,7 @@ mod readme;
 mod refused_memory;
 mod removed;
 mod streams;
+mod typed;
 mod unmet;
 mod unmet_laws;
 mod values;

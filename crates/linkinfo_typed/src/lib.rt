@@ -15,4 +15,4 @@ pub use qos::VlanQosMapping;
 pub use vlan::InfoVlan;
 // End: written by tables/generate.
 
-pub use layer::Typed;
+pub use layer::{OverBytes, Typed, TypedFamilies};

@@ -45,8 +45,10 @@ impl<P: LinkPeer> LinkLayer for Typed<P> {
 #[doc(hidden)]
 pub trait TypedFamilies {}
 
-/// The type that implements `TypedFamilies`. Only specifications name it: no call takes or returns
-/// it.
+/// The type that implements [`TypedFamilies`]. Only specifications name it: no call takes or
+/// returns it.
+///
+/// [`TypedFamilies`]: crate::layers::typed::TypedFamilies
 #[doc(hidden)]
 pub struct OverBytes;
 
