@@ -31,6 +31,7 @@ mod readme;
 mod refused_memory;
 mod removed;
 mod streams;
+mod typed;
 mod unmet;
 mod unmet_laws;
 mod values;

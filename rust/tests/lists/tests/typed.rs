@@ -1,0 +1,196 @@
+// @generated from crates/linkinfo_tests/src/tests/typed.rt by rust/translate/run.
+
+//! Lists over the typed layer: worked strings of vlan links, and a link that is built.
+
+use super::assertions::{assert_emitted, assert_equal, assert_holds, bytes_of, nlas};
+use linkinfo::layers::link::typed::{
+    self, InfoData, InfoVlan, LinkInfo, Typed, VecLinkInfo, VlanQosMapping,
+};
+use linkinfo::layers::link::{
+    Bytes, Cause, DecodeError, Family, Flags, HeaderCount, InfoKind, VlanFlags, VlanProtocol,
+    check, check_counted_of,
+};
+
+/// Strings that are rejected, and their errors: an ID of one byte; a mapping of four bytes, also
+/// before a byte that is no header; a payload that is no list; and both errors, in either order.
+const REJECTED: &[(&str, Family, u16, Cause)] = &[
+    (
+        "09000100 766c616e 00000000 09000200 05000100 07",
+        Family::Vlan,
+        1,
+        Cause::Length,
+    ),
+    (
+        "09000100 766c616e 00000000 10000200 0c000300 08000100 00000000",
+        Family::VlanQosMapping,
+        1,
+        Cause::Length,
+    ),
+    (
+        "09000100 766c616e 00000000 11000200 0d000300 08000100 00000000 01",
+        Family::VlanQosMapping,
+        1,
+        Cause::Length,
+    ),
+    (
+        "09000100 766c616e 00000000 09000200 05000300 01",
+        Family::Frame,
+        0,
+        Cause::Header,
+    ),
+    (
+        "09000100 766c616e 00000000 18000200 05000100 07000000 0c000300 08000100 00000000",
+        Family::Vlan,
+        1,
+        Cause::Length,
+    ),
+    (
+        "09000100 766c616e 00000000 15000200 0c000300 08000100 00000000 05000100 07",
+        Family::VlanQosMapping,
+        1,
+        Cause::Length,
+    ),
+];
+
+/// Strings, their canonical encodings, and the headers examined: flag bits of an ID; those of a
+/// list and of a mapping; those of an attribute of a list without a row; and an empty list.
+const CANONICAL: &[(&str, &str, usize)] = &[
+    (
+        "09000100 766c616e 00000000 0a000200 060001c0 0700",
+        "09000100 766c616e 00000000 0c000200 06000100 07000000",
+        3,
+    ),
+    (
+        "09000100 766c616e 00000000 14000200 10000380 0c000140 00000000 05000000",
+        "09000100 766c616e 00000000 14000200 10000300 0c000100 00000000 05000000",
+        4,
+    ),
+    (
+        "09000100 766c616e 00000000 0d000200 09000300 05000280 07",
+        "09000100 766c616e 00000000 10000200 0c000300 05000280 07000000",
+        4,
+    ),
+    (
+        "09000100 766c616e 00000000 08000200 04000300",
+        "09000100 766c616e 00000000 08000200 04000300",
+        3,
+    ),
+];
+
+/// Pairs of strings, and whether they are equivalent.
+const PAIRS: &[(&str, &str, bool)] = &[
+    (
+        "09000100 766c616e 00000000 08000200 04000300",
+        "09000100 766c616e 00000000 04000200",
+        false,
+    ),
+    (
+        "09000100 766c616e 00000000 0d000200 09000300 05000280 07",
+        "09000100 766c616e 00000000 0d000200 09000300 05000200 07",
+        false,
+    ),
+    (
+        "09000100 766c616e 00000000 14000200 10000380 0c000140 00000000 05000000",
+        "09000100 766c616e 00000000 14000200 10000300 0c000100 00000000 05000000",
+        true,
+    ),
+];
+
+/// The reply of a kernel for a vlan link with flags and two mappings in each list.
+const REPLY: &str = "09000100 766c616e 00000000 58000200 06000500 88a80000 06000100 07000000 \
+                     0c000200 0e000000 ffffffff 1c000400 0c000100 02000000 05000000 0c000100 \
+                     06000000 07000000 1c000300 0c000100 01000000 02000000 0c000100 03000000 \
+                     04000000";
+
+/// Asserts that the string is rejected with this error by each call, and accepted by the calls that
+/// keep the attributes of vlan links verbatim.
+fn assert_rejected(text: &str, error: DecodeError) {
+    let bytes = bytes_of(text);
+    assert_equal(&text, &typed::check(&bytes), &Err(error));
+    let read = VecLinkInfo::parse(&bytes).err();
+    assert_equal(&text, &read, &Some(error));
+    let at = typed::check_at(&bytes).err().map(|at| at.error);
+    assert_equal(&text, &at, &Some(error));
+    assert_equal(&text, &check(&bytes), &Ok(()));
+}
+
+#[test]
+fn rejected_vlan_links() {
+    for (text, family, kind, cause) in REJECTED {
+        let error = DecodeError {
+            family: *family,
+            kind: *kind,
+            cause: *cause,
+        };
+        assert_rejected(text, error);
+    }
+}
+
+/// Asserts that the string is read, and that this is its canonical encoding, by each call.
+fn assert_canonical(text: &str, canonical: &str, headers: usize) {
+    let bytes = bytes_of(text);
+    let wanted = bytes_of(canonical);
+    let list = VecLinkInfo::parse(&bytes).expect("a list");
+    assert_emitted(list.as_slice(), &wanted);
+    let written = typed::canon(&bytes).expect("an accepted list");
+    assert_equal(&text, &written.as_slice(), &wanted.as_slice());
+    let mut buffer = [0; 128];
+    let len = typed::canon_into(&bytes, &mut buffer).expect("an accepted list");
+    assert_equal(&text, &buffer.get(..len), &Some(wanted.as_slice()));
+    let mut count = HeaderCount::new();
+    let checked = check_counted_of::<Typed<Bytes>>(&bytes, &mut count);
+    assert_equal(&text, &(checked, count.get()), &(Ok(()), headers));
+    assert_equal(&text, &typed::same(&bytes, &wanted), &Ok(true));
+    assert_equal(&text, &typed::first_unmet(&bytes, &wanted), &Ok(None));
+    assert_equal(&text, &typed::first_difference(&bytes, &wanted), &Ok(None));
+}
+
+#[test]
+fn canonical_vlan_links() {
+    for (text, canonical, headers) in CANONICAL {
+        assert_canonical(text, canonical, *headers);
+    }
+    assert_canonical(REPLY, REPLY, 11);
+}
+
+#[test]
+fn equivalent_vlan_links() {
+    for (first, second, same) in PAIRS {
+        let a = bytes_of(first);
+        let b = bytes_of(second);
+        assert_equal(first, &typed::same(&a, &b), &Ok(*same));
+        let difference = typed::first_difference(&a, &b).expect("accepted lists");
+        assert_holds(first, difference.is_none() == *same);
+    }
+}
+
+#[test]
+fn built_vlan_link() {
+    let received = nlas([
+        VlanQosMapping::Mapping((2, 5)),
+        VlanQosMapping::Mapping((6, 7)),
+    ]);
+    let sent = nlas([
+        VlanQosMapping::Mapping((1, 2)),
+        VlanQosMapping::Mapping((3, 4)),
+    ]);
+    let data = nlas([
+        InfoVlan::Protocol(VlanProtocol::Ieee8021Ad),
+        InfoVlan::Id(7),
+        InfoVlan::Flags((
+            VlanFlags::from_bits_retain(14),
+            VlanFlags::from_bits_retain(0xffff_ffff),
+        )),
+        InfoVlan::IngressQos(received),
+        InfoVlan::EgressQos(sent),
+    ]);
+    let items = [
+        LinkInfo::Kind(InfoKind::Vlan),
+        LinkInfo::Data(InfoData::Vlan(data)),
+    ];
+    let list = VecLinkInfo::from(nlas(items).into_vec());
+    let bytes = bytes_of(REPLY);
+    assert_emitted(list.as_slice(), &bytes);
+    let read = VecLinkInfo::parse(&bytes).expect("a list");
+    assert_holds(&REPLY, read == list);
+}
