@@ -1,7 +1,7 @@
 """Laws: functions that do nothing, each there for its contract. They and their calls go."""
 import re
 
-from words import closing, item_end, texts, visible_from, without
+from words import closing, texts, visible_from, without
 
 
 def functions(words):
@@ -40,13 +40,24 @@ def call_end(words, at):
     something, by a call or an operator, are none."""
     start = at + 1
     if texts(words, start, 2) == ["::", "<"]:
-        start = item_end(words, start, (">",))
+        start = arguments_end(words, start + 1)
     if not re.match(r"[A-Za-z_]", words[at].text) or words[start].text != "(":
         return None
     end = closing(words, start)
     if any(re.fullmatch(r"[(?!=*+/]|-", text) for text in texts(words, start + 1, end - start - 1)):
         return None
     return end + 2 if words[end + 1].text == ";" else None
+
+
+def arguments_end(words, at):
+    """The index after the angle bracket that closes the one at `at`."""
+    depth = 0
+    while depth or words[at].text == "<":
+        depth += {"<": 1, ">": -1}.get(words[at].text, 0)
+        at += 1
+        if not depth:
+            break
+    return at
 
 
 class Laws:
