@@ -128,6 +128,9 @@ def reads(family, shapes):
         said += f" A payload of invalid length is rejected as `({family.name}, type, Length)`"
         said += ", and an address of the other IP version as " \
             f"`({family.name}, type, AddressKind)`" * ("GeneveV4" in shapes) + "."
+    if NEST in shapes:
+        said += " A list is rejected with the first error in it: that of an attribute inside, or "
+        said += "`(Frame, 0, Header)`."
     return said + "".join(
         f" A name that is not UTF-8 is rejected as `({family.name}, {row.number}, Utf8)`."
         for row in family.typed if row.shape == "Name")

@@ -19,7 +19,8 @@ use crate::vlan::InfoVlan;
 
 use linkinfo_table::{LinkFamily, ListedFamily};
 
-/// Each name is that of the family it is named after, and so is the family of its errors.
+/// Each name is that of the family it is named after, and so is the family of its own errors; those
+/// in lists are of the families inside.
 pub fn named()
     // Begin: written by tables/generate from tables/families (named).
     ensures vlan_qos_mapping { ⟦<VlanQosMapping as LinkFamily>⟧.FAMILY ≡ family.VlanQosMapping }

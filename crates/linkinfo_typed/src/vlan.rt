@@ -39,7 +39,7 @@ use std::marker::PhantomData;
 /// An attribute in the data of a `vlan` link, a VLAN interface (include/uapi/linux/if_link.h).
 #[derive(Debug, PartialEq, Eq, Clone, Drop)]
 pub enum InfoVlan {
-    /// VLAN ID, 0 to 4094 (`IFLA_VLAN_ID`), little-endian.
+    /// VLAN ID, which the kernel takes from 0 to 4094 (`IFLA_VLAN_ID`), little-endian.
     Id(u16),
     /// Flags, and the mask of the flags to change (`IFLA_VLAN_FLAGS`, `struct ifla_vlan_flags`),
     /// each little-endian.
@@ -128,7 +128,7 @@ fn pair_of(under: (VlanFlags, VlanFlags)) -> (u32, u32)
     (flags.bits(), mask.bits())
 }
 
-/// The row of `IFLA_VLAN_EGRESS_QOS`.
+/// The row of `IFLA_VLAN_EGRESS_QOS`. Wherever it is named, `T` is `()`.
 pub struct EgressQosRow<T> {
     of: PhantomData<T>,
 }
@@ -166,7 +166,7 @@ impl<T> PayloadRow<InfoVlan> for EgressQosRow<T> {
     }
 }
 
-/// The row of `IFLA_VLAN_INGRESS_QOS`.
+/// The row of `IFLA_VLAN_INGRESS_QOS`. Wherever it is named, `T` is `()`.
 pub struct IngressQosRow<T> {
     of: PhantomData<T>,
 }
@@ -239,7 +239,8 @@ impl Nla for InfoVlan {
     }
 }
 
-/// Reads the attribute. A payload of invalid length is rejected as `(Vlan, type, Length)`.
+/// Reads the attribute. A payload of invalid length is rejected as `(Vlan, type, Length)`. A list
+/// is rejected with the first error in it: that of an attribute inside, or `(Frame, 0, Header)`.
 impl<'a> Parseable<NlaBuffer<'a>> for InfoVlan {
     ghost meaning = { λ nla.
         meaning_in family.Vlan (λ d. Other d) (λ n. row_of (vlan_rows n)) nla };
