@@ -4,6 +4,7 @@ pub mod Comparing
 pub mod Conditions
 pub mod Difference
 pub mod Items
+pub mod OneType
 pub mod Layered
 pub mod Met
 pub mod Placed

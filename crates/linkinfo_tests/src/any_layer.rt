@@ -1,6 +1,6 @@
 //! A custom layer that needs `linkinfo` alone.
 
-ghost use Rattle.linkinfo_table.specs.OneType.{rows_type};
+ghost use Rattle.linkinfo.specs.OneType.{rows_type};
 
 use crate::any_peer::AnyPeer;
 use linkinfo::families::LinkLayer;
