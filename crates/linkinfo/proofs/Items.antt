@@ -229,7 +229,8 @@ module _ {L : Types} (layer : Families L) where
         IsAttribute b → link_meaning layer t a ≡ Ok x → link_meaning layer t b ≡ Ok y →
         (link_alike layer t a b ≡ true) ↔ (x ≡ y)
     link_alike_is t a b x y i j h k =
-        rows_alike_is family.LinkInfo link_other attribute (link_rows layer t) (is_row t) keeps_other
+        rows_alike_is family.LinkInfo link_other attribute (link_rows layer t) (is_row t)
+        keeps_other
         a b x y i j h k
 
     pub link_read_well : (t : CurrentKinds) (a : Attribute) (x : LinkOf L) → IsAttribute a →
@@ -297,7 +298,8 @@ module _ {L : Types} (layer : Families L) where
     role_written role.Kind a ok =
         name_written 1 (λ name. info.Kind (kind_of_name name)) kind_owes.keeps a ok
     role_written (role.Data tag) a ok =
-        data_written 2 (data_of layer (family_of tag)) (data_payload layer) (law.link (family_of tag))
+        data_written 2 (data_of layer (family_of tag)) (data_payload layer)
+        (law.link (family_of tag))
         (λ d. info.Data d) (λ d. refl) a ok
     role_written role.Xstats a ok = refl
     role_written role.PortKind a ok =
@@ -374,12 +376,14 @@ module _ {L : Types} (layer : Families L) where
       (sym (tag_of_port_kind-port_kind_of_name n.0))
       ∙ ap (λ (y : LinkOf L). kinds_after_value t y) n.2
   role_next (role.Data tag) t a x e =
-      let d = inside_read a (λ d. info.Data d) ((data_of layer (family_of tag)).means a.value) x e in
+      let d = inside_read a (λ d. info.Data d) ((data_of layer (family_of tag)).means a.value) x e
+      in
       ap (λ (y : LinkOf L). kinds_after_value t y) d.1
   role_next role.Xstats t a x e = ap (λ (y : LinkOf L). kinds_after_value t y) (good_same _ x e)
   role_next (role.PortData tag) t a x e =
       let d =
-      inside_read a (λ d. info.PortData d) ((port_data_of layer (port_family_of tag)).means a.value) x
+      inside_read a (λ d. info.PortData d) ((port_data_of layer (port_family_of tag)).means a.value)
+      x
       e in ap (λ (y : LinkOf L). kinds_after_value t y) d.1
   role_next role.Misplaced t a x e = absurd cc
   role_next role.Unknown t a x e =

@@ -94,11 +94,13 @@ module _ {L : Types} (layer : Families L) where
     pub goes_on : row_alike (link_row layer r) a b ≡ true → next_kinds t a ≡ next_kinds t b
     pub headers_x : headers_from layer t (nla_items x)
         ≡ 1
-        + (row_headers (link_row layer r) a + headers_from layer (next_kinds t a) (nla_items more_x))
+        + (row_headers (link_row layer r) a + headers_from layer (next_kinds t a)
+        (nla_items more_x))
     pub headers_y : row_alike (link_row layer r) a b ≡ true →
         headers_from layer t (nla_items y)
         ≡ 1
-        + (row_headers (link_row layer r) b + headers_from layer (next_kinds t b) (nla_items more_y))
+        + (row_headers (link_row layer r) b + headers_from layer (next_kinds t b)
+        (nla_items more_y))
 
   pub alike_is : (t : CurrentKinds) (a b : Attribute) (r : Role) → r ≡ role_at t a →
       link_alike layer t a b ≡ row_alike (link_row layer r) a b

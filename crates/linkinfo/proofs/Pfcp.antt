@@ -229,7 +229,8 @@ module _ {L : Types} (layer : Families L) where
       go false h =
           let apart : masked b.kind ≡ masked a.kind → ⊥ = λ k. differ _ _ h k in
           neither (link_alike layer t a b) (alike_before layer t a b)
-          (λ k. apart (role_alike_after layer (role_at t a) t a b (sym (link_alike_is t a b) ∙ k)).0)
+          (λ k. apart (role_alike_after layer (role_at t a) t a b
+          (sym (link_alike_is t a b) ∙ k)).0)
           (λ k. apart (before_typed (role_at t a) t a b k))
 
   where_true : (s x y : Bool) → (s ≡ true → x ≡ y) → (s && x) ≡ (s && y)

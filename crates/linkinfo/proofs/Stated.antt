@@ -39,7 +39,8 @@ module _ {L : Types} (layer : Families L) (well : FamilyConditions L)
   IsWell r x = WellAt link_other (link_row layer r) x
 
   data_stated : (kind : Option KindTag) (d : DataOf L) →
-      IsWell (role_under kind (λ tag. role.Data tag)) (info.Data d) ↔ IsDataUnder layer.peer.well well kind d
+      IsWell (role_under kind (λ tag. role.Data tag)) (info.Data d) ↔ IsDataUnder layer.peer.well
+      well kind d
   data_stated None d = (λ w. absurd w, λ h. let no = h.1 in absurd cc)
   data_stated (Some tag) d = (
     λ w.
@@ -53,7 +54,8 @@ module _ {L : Types} (layer : Families L) (well : FamilyConditions L)
         let same : h.0 ≡ tag = cc in (
           d,
           (stated.link (family_of tag) d).1
-              (subst (λ (g : KindTag). data_conditions layer.peer.well well (family_of g) d) same h.2),
+              (subst (λ (g : KindTag). data_conditions layer.peer.well well (family_of g) d) same
+              h.2),
           refl,
         ),
   )
@@ -67,14 +69,16 @@ module _ {L : Types} (layer : Families L) (well : FamilyConditions L)
         let same : w.0 ≡ d = cc in (
           tag,
           refl,
-          subst (λ (e : PortDataOf L). port_data_conditions layer.peer.well well (port_family_of tag) e) same
+          subst (λ (e : PortDataOf L). port_data_conditions layer.peer.well well
+              (port_family_of tag) e) same
               ((stated.port (port_family_of tag) w.0).0 w.1),
         ),
     λ h.
         let same : h.0 ≡ tag = cc in (
           d,
           (stated.port (port_family_of tag) d).1
-              (subst (λ (g : PortTag). port_data_conditions layer.peer.well well (port_family_of g) d) same h.2),
+              (subst (λ (g : PortTag). port_data_conditions layer.peer.well well (port_family_of g)
+              d) same h.2),
           refl,
         ),
   )
@@ -149,7 +153,8 @@ module _ {L : Types} (layer : Families L) (well : FamilyConditions L)
       ↔ item_conditions layer.peer.well well t x
   unfolding WellFormed role_of kind_of_name port_kind_of_name
   item_stated t = elim [
-    | info.Kind k ↦ table_label kind_table_holds IsText (λ y. info.Kind y) (item_conditions layer.peer.well well t)
+    | info.Kind k ↦ table_label kind_table_holds IsText (λ y. info.Kind y)
+        (item_conditions layer.peer.well well t)
         (λ _ is. is) (λ _ is. is) k
     | info.Data d ↦ data_stated t.kind d
     | info.Xstats x ↦ statistics_stated t.kind x
@@ -168,5 +173,6 @@ module _ {L : Types} (layer : Families L) (well : FamilyConditions L)
     λ h. ((item_stated t x).1 h.0, (under_stated (kinds_after_value t x) xs).1 h.1),
   )
 
-  pub list_stated : (xs : List (LinkOf L)) → WellFormedList layer xs ↔ Conditions layer.peer.well well xs
+  pub list_stated : (xs : List (LinkOf L)) → WellFormedList layer xs ↔ Conditions layer.peer.well
+      well xs
   list_stated xs = under_stated no_kinds xs

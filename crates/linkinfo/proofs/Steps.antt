@@ -137,7 +137,8 @@ module _ {L : Types} (layer : Families L) where
             ∙ ap (λ (m : Result (LinkOf L) DecodeError). m
             >>= λ x. values_from layer (next_kinds s.kinds a) more >>= λ xs. Ok (x ∷ xs)) means
             ∙ ap
-            (λ (u : CurrentKinds). meant r a >>= λ x. values_from layer u more >>= λ xs. Ok (x ∷ xs))
+            (λ (u : CurrentKinds). meant r a >>= λ x. values_from layer u more >>= λ xs. Ok
+            (x ∷ xs))
             after;
         headers =
             ap (λ (ps : List (Result Attribute ℕ)). headers_from layer s.kinds ps) h.nla_items_are

@@ -137,7 +137,8 @@ module _ {L : Types} (layer : Families L) (law : AreLawful layer) where
 
   -- what is parsed, serialized and parsed again is unchanged
   pub well_reading : (xs : List (LinkOf L)) → WellFormed layer xs →
-      AllByRecursion Fits (map attribute xs) → reading layer (list_string (map attribute xs)) ≡ Ok xs
+      AllByRecursion Fits (map attribute xs) → reading layer (list_string (map attribute xs)) ≡ Ok
+      xs
   unfolding reading
   well_reading xs w fits =
       well_is_read (link_meaning layer) next_kinds attribute (link_well layer) kinds_after_value

@@ -162,7 +162,8 @@ module _ {L : Types} (layer : Families L) where
     pub values : values_from layer s.kinds (nla_items (left s))
         ≡ with_first (link_attribute layer) (meant layer r a)
         (values_from layer t.kinds (nla_items (left t)))
-    pub written : attribute_for (link_attribute layer) (meant layer r a) ≡ written_attribute layer r a
+    pub written : attribute_for (link_attribute layer) (meant layer r a) ≡ written_attribute layer r
+        a
     pub whole : left_of s ≡ written_attribute layer r a ∷ left_of t
     pub shorter : length (left t) < length (left s)
 
@@ -192,7 +193,8 @@ module _ {L : Types} (layer : Families L) where
       (total len next : Option ℕ) (whole : List Attribute) → Entered layer s a r t →
       (IsOk (values_from layer s.kinds (nla_items (left s))) → Remains total (left_of s) whole) →
       Ok tt ≡ verdict (meant layer r a) →
-      SomeIff len (Fits (written_attribute layer r a)) (length (written_attribute layer r a).value) →
+      SomeIff len (Fits (written_attribute layer r a)) (length (written_attribute layer r a).value)
+      →
       IsTotalWith total len next →
       IsOk (values_from layer t.kinds (nla_items (left t))) → Remains next (left_of t) whole
   measured_step law s t a r total len next whole step before accepted size sum ok =

@@ -55,5 +55,6 @@ item_conditions peer well t (info.Other d) =
     (d.kind < 65536) × IsBytes d.value × IsUnnamed (masked d.kind)
 
 -- each value of the list, under the current kinds that those before it leave
-abbrev pub Conditions : {L : Types} → (L.Peer → Type 0) → FamilyConditions L → List (LinkOf L) → Type 0
+abbrev pub Conditions : {L : Types} → (L.Peer → Type 0) → FamilyConditions L → List (LinkOf L) →
+    Type 0
 Conditions peer well xs = well_under (item_conditions peer well) kinds_after_value no_kinds xs

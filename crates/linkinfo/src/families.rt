@@ -1,9 +1,9 @@
 //! For authors of a family of attributes, of a peer of veth, vxcan and netkit links, of a layer, or
-//! of a flag set: the traits to implement, the calls that follow from a table, and the writers of numbers and
-//! attributes.
+//! of a flag set: the traits to implement, the calls that follow from a table, and the writers of
+//! numbers and attributes.
 
-// Every family has `ListedFamily`, and every layer `LayerFamilies`: they are for contracts alone, as
-// `PlainFamilies` and `Plain` are. Every layer has `DataLayer` too.
+// Every family has `ListedFamily`, and every layer `LayerFamilies`: they are for contracts alone,
+// as `PlainFamilies` and `Plain` are. Every layer has `DataLayer` too.
 pub use linkinfo_data::{DataLayer, Plain, PlainFamilies};
 pub use linkinfo_numbers::{KeepsEveryBit, bits_again};
 pub use linkinfo_peers::BitPeer;

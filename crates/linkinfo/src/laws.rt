@@ -208,13 +208,17 @@ pub fn well_formed<P: LinkPeer>()
     ensures kind { (t : CurrentKinds) (k : InfoKind) →
         link_well ⟦<P as LayerFamilies>⟧.families t (info.Kind k) ↔ IsRead kind_table IsText k }
     ensures data { (t : CurrentKinds) (d : Data ⟦<P as LayerFamilies>⟧.families) →
-        link_well ⟦<P as LayerFamilies>⟧.families t (info.Data d) ↔ IsDataUnder P.well opaque_families t.kind d }
+        link_well ⟦<P as LayerFamilies>⟧.families t (info.Data d) ↔ IsDataUnder P.well
+        opaque_families t.kind d }
     ensures statistics { (t : CurrentKinds) (x : LinkXstats) →
-        link_well ⟦<P as LayerFamilies>⟧.families t (info.Xstats x) ↔ ((t.kind ≢ None) × IsBytes (xstats_bytes x)) }
+        link_well ⟦<P as LayerFamilies>⟧.families t (info.Xstats x)
+        ↔ ((t.kind ≢ None) × IsBytes (xstats_bytes x)) }
     ensures port_kind { (t : CurrentKinds) (k : InfoPortKind) →
-        link_well ⟦<P as LayerFamilies>⟧.families t (info.PortKind k) ↔ IsRead port_kind_table IsText k }
+        link_well ⟦<P as LayerFamilies>⟧.families t (info.PortKind k) ↔ IsRead port_kind_table
+        IsText k }
     ensures port_data { (t : CurrentKinds) (d : PortData ⟦<P as LayerFamilies>⟧.families) →
-        link_well ⟦<P as LayerFamilies>⟧.families t (info.PortData d) ↔ IsPortDataUnder P.well opaque_families t.port d }
+        link_well ⟦<P as LayerFamilies>⟧.families t (info.PortData d) ↔ IsPortDataUnder P.well
+        opaque_families t.port d }
     ensures unknown { (t : CurrentKinds) (d : DefaultNla) →
         link_well ⟦<P as LayerFamilies>⟧.families t (info.Other d)
         ↔ ((d.kind < 65536) × IsBytes d.value × IsUnnamed (masked d.kind)) }

@@ -8,8 +8,8 @@ use nla_frame::{Bytes, DefaultNla, Emitable, ExactEq, Nla, fitting};
 use std::alloc::AllocError;
 use std::fmt::{self, Debug, Formatter, Write};
 
-/// An attribute in `IFLA_LINKINFO`, over the layer `P`: with peers of its type, and attributes of its
-/// families.
+/// An attribute in `IFLA_LINKINFO`, over the layer `P`: with peers of its type, and attributes of
+/// its families.
 #[derive(PartialEq, Eq, Drop)]
 pub enum LinkInfoOf<P: LinkLayer> {
     /// The statistics of the link (`IFLA_INFO_XSTATS`).

@@ -1,5 +1,5 @@
-//! Lists over the typed layer, by the names of the crate's root: the attributes of `vlan` links have
-//! types here, and so have the priority maps in them.
+//! Lists over the typed layer, by the names of the crate's root: the attributes of `vlan` links
+//! have types here, and so have the priority maps in them.
 //!
 //! ```text
 //! use linkinfo::typed::{self, InfoData, InfoVlan, LinkInfo, VecLinkInfo};

@@ -363,10 +363,12 @@ kinds_flagged _ = tt
 
 ports_errors : (f : PortFamily) (p : List ℕ) → EachError ((port_data_of bytes_layer f).means p)
 ports_errors port_data.Bond p =
-    variant_errors (λ xs. port_info.BondPort xs) (values bytes_layer.bond_port.meaning (nla_items p))
+    variant_errors (λ xs. port_info.BondPort xs)
+    (values bytes_layer.bond_port.meaning (nla_items p))
     (table_errors _ _ [] p)
 ports_errors port_data.Bridge p =
-    variant_errors (λ xs. port_info.BridgePort xs) (values bytes_layer.bridge_port.meaning (nla_items p))
+    variant_errors (λ xs. port_info.BridgePort xs)
+    (values bytes_layer.bridge_port.meaning (nla_items p))
     (table_errors _ _ [] p)
 ports_errors port_data.Vrf p =
     variant_errors (λ xs. port_info.VrfPort xs) (values plain.vrf_port.meaning (nla_items p))
@@ -402,7 +404,8 @@ role_errors (role.PortData t) a =
     (inside_errors ((port_data_of bytes_layer (port_family_of t)).means a.value)
     (ports_errors (port_family_of t) a.value))
 role_errors role.Misplaced a = λ e k.
-    subst IsReturned (ap (λ (d : DecodeError). d.cause) (bad_same {X = LinkOf (peer_types Bytes)} _ e k))
+    subst IsReturned (ap (λ (d : DecodeError). d.cause)
+    (bad_same {X = LinkOf (peer_types Bytes)} _ e k))
     (let order : IsReturned cause.Order = tt in order)
 role_errors role.Unknown a = λ e k. absurd cc
 

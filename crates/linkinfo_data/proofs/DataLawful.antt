@@ -160,7 +160,8 @@ data_lawful layer is =
           (λ xs. port.TeamPort xs) (port_data_payload layer) (λ _. refl) (λ x y e. cc)
       | port_of.Vrf ↦ as_list_is_lawful plain.vrf_port vrf_is
           (λ xs. port.VrfPort xs) (port_data_payload layer) (λ _. refl) (λ x y e. cc)
-      | port_of.Raw ↦ as_bytes_is_lawful (λ bytes. port.Other bytes) (port_data_payload layer) (λ _. refl)
+      | port_of.Raw ↦ as_bytes_is_lawful (λ bytes. port.Other bytes) (port_data_payload layer)
+          (λ _. refl)
           (λ x y e. cc)
     ] in
     record {

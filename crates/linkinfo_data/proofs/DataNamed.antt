@@ -121,7 +121,8 @@ data_named layer is =
           (λ xs. info.Ip6ErSpan xs) gre6_names
       -- End: written by tables/generate.
     ] in
-    let peered_ones : (f : PeeredFamily) → ErrorsName (peered_name layer f ∷ peered_inner layer f) (peers_data_of layer f) =
+    let peered_ones : (f : PeeredFamily) → ErrorsName (peered_name layer f ∷ peered_inner layer f)
+    (peers_data_of layer f) =
     elim [
       -- Begin: written by tables/generate from tables/kinds (peered).
       | peered.Tun ↦ list_errors_name (names_of layer.tun) layer.tun
@@ -150,7 +151,8 @@ data_named layer is =
           layer.bridge_port.family name layer.bridge_port.inner e
           (list_errors_name (names_of layer.bridge_port) layer.bridge_port
           (λ xs. port.BridgePort xs) is.bridge_port.named)
-      | port_of.Team ↦ λ name e. under_name (port_data_of layer port_of.Team) family.TeamPort name []
+      | port_of.Team ↦ λ name e. under_name (port_data_of layer port_of.Team) family.TeamPort name
+          []
           e (list_errors_name (family.TeamPort ∷ []) plain.team_port (λ xs. port.TeamPort xs)
           (opaque_names family.TeamPort))
       | port_of.Vrf ↦ λ name e. under_name (port_data_of layer port_of.Vrf) family.Vrf name [] e
@@ -162,13 +164,16 @@ data_named layer is =
         | of.Lower f ↦ λ name e. under_name (data_of layer (of.Lower f)) (lower_name layer f) name
             (lower_inner layer f) e
             (lower_ones f)
-        | of.Device f ↦ λ name e. under_name (data_of layer (of.Device f)) (device_name layer f) name
+        | of.Device f ↦ λ name e. under_name (data_of layer (of.Device f)) (device_name layer f)
+            name
             [] e
             (device_ones f)
-        | of.Tunnel f ↦ λ name e. under_name (data_of layer (of.Tunnel f)) (tunnel_name layer f) name
+        | of.Tunnel f ↦ λ name e. under_name (data_of layer (of.Tunnel f)) (tunnel_name layer f)
+            name
             [] e
             (tunnel_ones f)
-        | of.Peered f ↦ λ name e. under_name (data_of layer (of.Peered f)) (peered_name layer f) name
+        | of.Peered f ↦ λ name e. under_name (data_of layer (of.Peered f)) (peered_name layer f)
+            name
             (peered_inner layer f) e
             (peered_ones f)
         | of.Raw ↦ λ name e. absurd (no_name name e)

@@ -67,7 +67,8 @@ data_stated layer well is =
       -- End: written by tables/generate.
     ] in
     let device_ones : (f : DeviceFamily) →
-    IsStated (devices_data_of (types_of layer) f) (λ d. device_conditions layer.peer.well well f d) = elim [
+    IsStated (devices_data_of (types_of layer) f) (λ d. device_conditions layer.peer.well well f d)
+    = elim [
       -- Begin: written by tables/generate from tables/kinds (device).
       | device.IpVlan ↦ list_stated plain.ip_vlan
           (λ xs. info.IpVlan xs) ip_vlan_conditions ip_vlan_stated
@@ -87,7 +88,8 @@ data_stated layer well is =
       -- End: written by tables/generate.
     ] in
     let tunnel_ones : (f : TunnelFamily) →
-    IsStated (tunnels_data_of (types_of layer) f) (λ d. tunnel_conditions layer.peer.well well f d) = elim [
+    IsStated (tunnels_data_of (types_of layer) f) (λ d. tunnel_conditions layer.peer.well well f d)
+    = elim [
       -- Begin: written by tables/generate from tables/kinds (tunnel).
       | tunnel.Vxlan ↦ list_stated plain.vxlan (λ xs. info.Vxlan xs) vxlan_conditions vxlan_stated
       | tunnel.GreTap ↦ list_stated plain.gre (λ xs. info.GreTap xs) gre_conditions gre_stated

@@ -190,7 +190,8 @@ port_data_conditions peer well port_of.Bond d = IsListOf (λ xs. port.BondPort x
 port_data_conditions peer well port_of.Bridge d =
     IsListOf (λ xs. port.BridgePort xs) well.bridge_port d
 port_data_conditions peer well port_of.Vrf d = IsListOf (λ xs. port.VrfPort xs) vrf_conditions d
-port_data_conditions peer well port_of.Team d = IsListOf (λ xs. port.TeamPort xs) opaque_conditions d
+port_data_conditions peer well port_of.Team d = IsListOf (λ xs. port.TeamPort xs) opaque_conditions
+    d
 port_data_conditions peer well port_of.Raw d = Labelled (λ bytes. port.Other bytes) IsBytes d
 
 -- ---- a value of a payload is well formed if and only if it meets these conditions

@@ -1,5 +1,5 @@
--- The `==` of an enum over a layer decides equality if the `==` of the contents of each variant does.
--- The equality of the values of the types that the layer supplies is given with these types.
+-- The `==` of an enum over a layer decides equality if the `==` of the contents of each variant
+-- does. The equality of the values of the types that the layer supplies is given with these types.
 use denote.Enum.Compared.{by, Each}
 use denote.Enum.Declared.{Record}
 use denote.RattleType.{RattleType}
@@ -14,7 +14,8 @@ use Rattle.nla_frame.specs.contracts.exact_eq.ExactEq.TheBound as exact
 
 -- an enum, by the layer and the types that it supplies
 abbrev pub LayerEnum : Type 2
-LayerEnum = (layer peer bond bridge vlan can hsr dsa tun bond_port bridge_port : RattleType) → Record
+LayerEnum = (layer peer bond bridge vlan can hsr dsa tun bond_port bridge_port : RattleType) →
+    Record
 
 pub by_variants : (enum : LayerEnum)
     {layer peer bond bridge vlan can hsr dsa tun bond_port bridge_port : RattleType}
@@ -42,7 +43,8 @@ pub by_variants : (enum : LayerEnum)
     exact.All bridge_port E10 D10 S10 F10 →
     (tests : Each Bool
     (enum layer peer bond bridge vlan can hsr dsa tun bond_port bridge_port).parts) →
-    EachDecides (enum layer peer bond bridge vlan can hsr dsa tun bond_port bridge_port).parts tests →
+    EachDecides (enum layer peer bond bridge vlan can hsr dsa tun bond_port bridge_port).parts tests
+    →
     (x y : (enum layer peer bond bridge vlan can hsr dsa tun bond_port bridge_port).D) →
     Decides
     (by false false (enum layer peer bond bridge vlan can hsr dsa tun bond_port bridge_port).parts

@@ -147,7 +147,8 @@ impl<P: LinkLayer> InfoDataOf<P> {
     #[tactic(auto, unfolding(crate::specs::InfoData::data_payload))]
     pub(crate) fn encode<E: Encode>(&self, encode: E, buffer: &mut [u8]) -> E::Answer
         requires { E.ready (data_payload ⟦<P as LayerFamilies>⟧.families self.now) buffer.old }
-        ensures { E.answered (data_payload ⟦<P as LayerFamilies>⟧.families self.now) buffer.old buffer.new result }
+        ensures { E.answered (data_payload ⟦<P as LayerFamilies>⟧.families self.now) buffer.old
+            buffer.new result }
     {
         match self {
             // Begin: written by tables/generate from tables/kinds (encoding).

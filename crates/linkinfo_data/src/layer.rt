@@ -28,8 +28,8 @@ use linkinfo_table::{LayerFamilies, LinkFamily, LinkLayer};
 use nla_frame::{Bytes, DecodeError, Family, HeaderCount};
 use std::alloc::Global;
 
-/// A layer, with the calls on data and port data of its families. Every `LinkLayer` that is `Eq`, as
-/// peers are, implements it, and no other type does.
+/// A layer, with the calls on data and port data of its families. Every `LinkLayer` that is `Eq`,
+/// as peers are, implements it, and no other type does.
 ///
 /// Contracts of generic code speak of `families`, and know of them only that they are lawful.
 pub trait DataLayer: LinkLayer + Eq + Sized {
@@ -86,7 +86,8 @@ pub trait DataLayer: LinkLayer + Eq + Sized {
         requires { HasRoom (data_payload families value.now) buffer.old }
         ensures { Writes (data_payload families value.now) buffer.old buffer.new result };
 
-    /// The name of the family of the attributes in port data of a family, or `None` if it is no list.
+    /// The name of the family of the attributes in port data of a family, or `None` if it is no
+    /// list.
     fn port_data_listing(family: PortFamily) -> Option<Family>
         ensures { result ≡ family_in (port_data_of families family).listing };
 
@@ -119,7 +120,8 @@ pub trait DataLayer: LinkLayer + Eq + Sized {
     fn port_data_fit_len(value: &InfoPortDataOf<Self>) -> Option<usize>
         ensures { IsFitLen (port_data_payload families value.now) result };
 
-    /// Writes the canonical payload of port data to the front of the buffer, and returns its length.
+    /// Writes the canonical payload of port data to the front of the buffer, and returns its
+    /// length.
     fn write_port_data(value: &InfoPortDataOf<Self>, buffer: &mut [u8]) -> usize
         requires { HasRoom (port_data_payload families value.now) buffer.old }
         ensures { Writes (port_data_payload families value.now) buffer.old buffer.new result };
@@ -138,7 +140,8 @@ macro_rules! of_port {
     ($family:expr, $call:ident $given:tt) => {
         match $family {
             PortFamily::Bond => $call!(list(InfoPortDataOf::BondPort, L::BondPort, ()) $given),
-            PortFamily::Bridge => $call!(list(InfoPortDataOf::BridgePort, L::BridgePort, ()) $given),
+            PortFamily::Bridge =>
+            $call!(list(InfoPortDataOf::BridgePort, L::BridgePort, ()) $given),
             PortFamily::Vrf => $call!(list(InfoPortDataOf::VrfPort, InfoVrfPort, ()) $given),
             PortFamily::Team => $call!(list(InfoPortDataOf::TeamPort, InfoTeamPort, ()) $given),
             PortFamily::Raw => $call!(bytes(InfoPortDataOf::Other) $given),
@@ -184,7 +187,8 @@ impl<L: LinkLayer + Eq> DataLayer for L {
 
     ghost families = { ⟦<L as LayerFamilies>⟧.families };
 
-    ghost data_exact = { by_variants of_data.enum L.PartialEq L.Peer.ExactEq L.Bond.ExactEq L.Bridge.ExactEq
+    ghost data_exact = { by_variants of_data.enum L.PartialEq L.Peer.ExactEq L.Bond.ExactEq
+        L.Bridge.ExactEq
         L.Vlan.ExactEq L.Can.ExactEq L.Hsr.ExactEq L.Dsa.ExactEq L.Tun.ExactEq L.BondPort.ExactEq
         L.BridgePort.ExactEq _
         -- Begin: written by tables/generate from tables/kinds (fields).

@@ -57,8 +57,8 @@ pub fn port_family_of(tag: PortTag) -> PortFamily
 }
 
 /// The data of a port (`IFLA_INFO_SLAVE_DATA`): the attributes of its port kind's family, or bytes
-/// if the port kind has no family. `P` is the layer that supplies the families of ports of bonds and
-/// of bridges: at a `LinkPeer` these are opaque.
+/// if the port kind has no family. `P` is the layer that supplies the families of ports of bonds
+/// and of bridges: at a `LinkPeer` these are opaque.
 #[derive(Debug, PartialEq, Eq, Clone, Drop)]
 pub enum InfoPortDataOf<P: LinkLayer> {
     /// Attributes of a port of a `bond` link (`IFLA_BOND_SLAVE_*`), which the layer supplies.
@@ -142,7 +142,8 @@ impl<P: LinkLayer> InfoPortDataOf<P> {
     #[tactic(auto, unfolding(crate::specs::PortData::port_data_payload))]
     pub(crate) fn encode<E: Encode>(&self, encode: E, buffer: &mut [u8]) -> E::Answer
         requires { E.ready (port_data_payload ⟦<P as LayerFamilies>⟧.families self.now) buffer.old }
-        ensures { E.answered (port_data_payload ⟦<P as LayerFamilies>⟧.families self.now) buffer.old buffer.new result }
+        ensures { E.answered (port_data_payload ⟦<P as LayerFamilies>⟧.families self.now) buffer.old
+            buffer.new result }
     {
         match self {
             InfoPortDataOf::BondPort(list) => encode.list(list, buffer),

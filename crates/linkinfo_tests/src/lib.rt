@@ -1,6 +1,6 @@
 //! Tests of `linkinfo` and `linkinfo_lines`, by their public calls alone, and a custom peer and a
-//! custom layer as users of `linkinfo` write them. They are a crate of their own, since a crate with tests is proved
-//! twice.
+//! custom layer as users of `linkinfo` write them. They are a crate of their own, since a crate
+//! with tests is proved twice.
 #![tactic(auto)]
 
 mod any_layer;

@@ -37,8 +37,8 @@ fn custom_peer(rt: HostRuntime) {
     assert_emitted(&rt, alloc, list.as_slice(), &none);
 }
 
-/// A vlan link whose data is an attribute of type 2 with four bytes, with flag bits too, and with one
-/// byte.
+/// A vlan link whose data is an attribute of type 2 with four bytes, with flag bits too, and with
+/// one byte.
 const VLANS: [&str; 3] = [
     "09000100 766c616e 00000000 0c000200 08000200 05000000",
     "09000100 766c616e 00000000 0c000200 08000280 05000000",

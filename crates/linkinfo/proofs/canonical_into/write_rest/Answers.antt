@@ -36,7 +36,8 @@ pub write_item-place-requires-clause-room : goal.write_item-place-requires-claus
 write_item-place-requires-clause-room g c =
     let layer = g.P.DataLayer.families in
     let step =
-    walk_writes layer c.families_lawful.ensures _ _ c.in-Some.next c.unwrap-nla.result (search rules)
+    walk_writes layer c.families_lawful.ensures _ _ c.in-Some.next c.unwrap-nla.result
+    (search rules)
     c.in-Some.ensures.step c.loop-next.invariant.accepted in
     let a = written_attribute layer c.unwrap-nla.result.1 c.unwrap-nla.result.0 in
     let more =
@@ -50,7 +51,8 @@ loop-next-preserved g c =
     let buffer = c.loop-next.buffer in
     let at = c.loop-next.place in
     let step =
-    walk_writes layer c.families_lawful.ensures _ _ c.in-Some.next c.unwrap-nla.result (search rules)
+    walk_writes layer c.families_lawful.ensures _ _ c.in-Some.next c.unwrap-nla.result
+    (search rules)
     c.in-Some.ensures.step c.loop-next.invariant.accepted in
     record {
       accepted = step.others;

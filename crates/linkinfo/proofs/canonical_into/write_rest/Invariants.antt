@@ -15,7 +15,8 @@ invariant-loop-next g l =
     let layer = g.P.DataLayer.families in
     let first = l.initial.walk in
     let all =
-    attributes_for (link_attribute layer) (values_from layer first.kinds (nla_items (left first))) in
+    attributes_for (link_attribute layer) (values_from layer first.kinds (nla_items (left first)))
+    in
     let now =
     attributes_for (link_attribute layer)
     (values_from layer l.walk.kinds (nla_items (left l.walk))) in

@@ -35,7 +35,8 @@ returns-in-Kind g c =
     (with_name_ok _ _ (subst (λ (r : Role). IsOk (kinds_after_role r no_kinds c.args.nla.now))
     c.in-Kind.is c.requires))
     ∙ sym (ap (λ (r : Role).
-    verdict (row_meaning family.LinkInfo link_other (link_row layer r) c.args.nla.now)) c.in-Kind.is)
+    verdict (row_meaning family.LinkInfo link_other (link_row layer r) c.args.nla.now))
+    c.in-Kind.is)
     in (sym checked, search rules)
 
 pub returns-in-PortKind : goal.returns-in-PortKind

@@ -16,7 +16,8 @@ use Rattle.linkinfo.proofs.Naming.{made_ok, named}
 use Rattle.linkinfo.proofs.item.read_item.Goals as goal
 
 -- an attribute with the name of a kind or of a port kind: `own` is the role of such attributes
-named_read : {L : Types} {K : Type 0} (layer : Families L) (of_name : List ℕ → K) (label : K → LinkOf L)
+named_read : {L : Types} {K : Type 0} (layer : Families L) (of_name : List ℕ → K)
+    (label : K → LinkOf L)
     (own r : Role) (a : Attribute) → r ≡ own →
     item_meaning layer own a ≡ named (λ name. label (of_name name)) a →
     item_headers layer own a ≡ 0 → (kind : K) (len n : ℕ) →
@@ -36,7 +37,8 @@ named_read layer of_name label own r a is means flat kind len n gives =
 
 pub returns-in_ok-read_kind-in-Kind : goal.returns-in_ok-read_kind-in-Kind
 returns-in_ok-read_kind-in-Kind g c =
-    named_read g.P.DataLayer.families kind_of_name (λ kind. info.Kind kind) role.Kind _ c.args.nla.now
+    named_read g.P.DataLayer.families kind_of_name (λ kind. info.Kind kind) role.Kind _
+    c.args.nla.now
     c.in-Kind.is refl refl _ _ _ c.in_ok-read_kind-in-Kind.ensures.answer
 
 pub returns-in_ok-read_port_kind-in-PortKind : goal.returns-in_ok-read_port_kind-in-PortKind

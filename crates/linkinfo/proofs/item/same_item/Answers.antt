@@ -92,11 +92,13 @@ returns-then-same_kind-2 g c =
           alike_by_role g.P.DataLayer.families _ _ c.in-Data.is c.args.a.now c.args.b.now _
           (alike_of c.args.a.now c.args.b.now _ _ _ _ c.kind.ensures c.kind-2.ensures
           c.if-same_kind-2.true
-          (payloads_alike (data_of g.P.DataLayer.families) _ _ c.family_of.ensures _ _ _ _ one other _
+          (payloads_alike (data_of g.P.DataLayer.families) _ _ c.family_of.ensures _ _ _ _ one other
+          _
           compared.same));
       counted =
           counted_by_role g.P.DataLayer.families _ _ c.in-Data.is c.args.a.now c.args.b.now _ _ _
-          (payloads_counted (data_of g.P.DataLayer.families) _ _ c.family_of.ensures _ _ _ _ one other _ _ _
+          (payloads_counted (data_of g.P.DataLayer.families) _ _ c.family_of.ensures _ _ _ _ one
+          other _ _ _
           compared.counted);
       rises = compared.rises;
       quarter = omega (arith, compared.quarter, ap length one, ap length other);

@@ -78,7 +78,8 @@ returns-in_err-check_item g c =
 pub returns : goal.returns
 returns g c =
     let inv = c.loop-next.invariant in
-    let end = headers_end g.P.DataLayer.families c.loop-next.walk.kinds _ c.in_default.ensures.step.1 in
+    let end = headers_end g.P.DataLayer.families c.loop-next.walk.kinds _
+    c.in_default.ensures.step.1 in
     let examined = ap (λ (w : LinkWalk). w.attributes.examined) c.in_default.ensures.step.0 in
     record {
       answer = search rules;

@@ -88,7 +88,8 @@ loop-next-preserved g c =
           pair.second_more;
       same =
           ap (λ (u : CurrentKinds).
-          alike_from layer u (nla_items c.unwrap-p.result.1.now) (nla_items c.unwrap-q.result.1.now))
+          alike_from layer u (nla_items c.unwrap-p.result.1.now)
+          (nla_items c.unwrap-q.result.1.now))
           (sym kinds)
           ∙ sym (pair.same ∙ along _ _ alike)
           ∙ inv.same;

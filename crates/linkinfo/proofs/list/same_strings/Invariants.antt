@@ -14,7 +14,8 @@ invariant-loop-next g l =
       same : alike_from layer l.kinds (nla_items l.x) (nla_items l.y)
           ≡ alike_from layer no_kinds (nla_items l.a) (nla_items l.b);
       counted : l.count
-          + (headers_from layer l.kinds (nla_items l.x) + headers_from layer l.kinds (nla_items l.y))
+          + (headers_from layer l.kinds (nla_items l.x) + headers_from layer l.kinds
+          (nla_items l.y))
           ≡ l.fn.count + (headers_from layer no_kinds (nla_items l.a)
           + headers_from layer no_kinds (nla_items l.b));
       rises : l.fn.count ≤ l.count;
