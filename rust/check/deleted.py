@@ -31,8 +31,8 @@ def deleted_proof(words, at):
         if words[start].text == "[" and words[start + 1].text in ("tactic", "cycle"):
             return "attribute of proof", at, closing(words, start) + 1
     if text == "impl" and before in ("", ";", "}", "]"):
-        # `Model` is what a contract sees. Rust derives an explicit `Clone` without a bound on a type
-        # of the layer: the derive is listed as put in.
+        # `Model` is what a contract sees. Rust derives an explicit `Clone` without a bound on a
+        # type of the layer: the derive is listed as put in.
         body = item_end(words, at, ("{",)) - 1
         head = texts(words, at, body - at)
         is_derived = "for" in head and "where" not in head

@@ -1,7 +1,8 @@
 """Derives `Hash`, `PartialOrd` and `Ord` beside `Eq`, as Rust's API guidelines ask of values.
 
 A type that borrows and is not `Copy` is an iterator or a view: it gets none of them. Nor does one
-with `Debug` by hand, since it contains types of a layer: `src/orders.rs` has its impls, with bounds.
+with `Debug` by hand, since it contains types of a layer: `src/orders.rs` has its impls, with
+bounds.
 """
 
 from .clones import derives
