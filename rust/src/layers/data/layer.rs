@@ -114,7 +114,8 @@ macro_rules! of_port {
     ($family:expr, $call:ident $given:tt) => {
         match $family {
             PortFamily::Bond => $call!(list(InfoPortDataOf::BondPort, L::BondPort, ()) $given),
-            PortFamily::Bridge => $call!(list(InfoPortDataOf::BridgePort, L::BridgePort, ()) $given),
+            PortFamily::Bridge =>
+            $call!(list(InfoPortDataOf::BridgePort, L::BridgePort, ()) $given),
             PortFamily::Vrf => $call!(list(InfoPortDataOf::VrfPort, InfoVrfPort, ()) $given),
             PortFamily::Team => $call!(list(InfoPortDataOf::TeamPort, InfoTeamPort, ()) $given),
             PortFamily::Raw => $call!(bytes(InfoPortDataOf::Other) $given),

@@ -4,8 +4,8 @@
 //! of a flag set: the traits to implement, the calls that follow from a table, and the writers of
 //! numbers and attributes.
 
-// Every family has `ListedFamily`, and every layer `LayerFamilies`: they are for contracts alone, as
-// `PlainFamilies` and `Plain` are. Every layer has `DataLayer` too.
+// Every family has `ListedFamily`, and every layer `LayerFamilies`: they are for contracts alone,
+// as `PlainFamilies` and `Plain` are. Every layer has `DataLayer` too.
 pub use crate::layers::data::{DataLayer, Plain, PlainFamilies};
 pub use crate::layers::nla_frame::{
     emit_i32, emit_u16, emit_u16_be, emit_u32, emit_u32_be, emit_u64, emit_u64_be, fitting,
