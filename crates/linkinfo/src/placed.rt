@@ -181,7 +181,8 @@ pub fn check_at(bytes: &[u8]) -> Result<(), ErrorAt>
     ensures answer { MatchResult result (λ _. IsOk (reading bytes_layer bytes.now))
         (λ at. reading bytes_layer bytes.now ≡ Err at.error) }
     ensures place { IfErr result (λ at. IsRejectedAt bytes_layer bytes.now at.error at.place) }
-    ensures inner { IfErr result (λ at. IsErrorAt bytes_layer bytes.now at.error at.place at.inner) }
+    ensures inner { IfErr result
+        (λ at. IsErrorAt bytes_layer bytes.now at.error at.place at.inner) }
 {
     check_at_of::<Bytes>(bytes)
 }

@@ -11,7 +11,21 @@
 //! A list that is accepted here is accepted by the calls of the root, which keep these attributes
 //! verbatim, and it has the same canonical encoding there if it is a reply of a kernel.
 
-ghost use Rattle.std.specs.Prelude.{◌≡◌, ◌≢◌, ◌↔◌, ◌≤◌, drop, length, take, IfErr, IfOk, IsOk, IsTrue, MatchResult, OnErr};
+ghost use Rattle.std.specs.Prelude.{
+  ◌≡◌,
+  ◌≢◌,
+  ◌↔◌,
+  ◌≤◌,
+  IfErr,
+  IfOk,
+  IsOk,
+  IsTrue,
+  MatchResult,
+  OnErr,
+  drop,
+  length,
+  take,
+};
 ghost use Rattle.nla_frame.specs.Answers.{verdict};
 ghost use Rattle.nla_frame.specs.Error.{memory_error};
 ghost use Rattle.linkinfo.specs.Canon.{CanonIsCertain, CanonRefuses, IntoRefuses, IsCanonical};
@@ -62,7 +76,8 @@ pub fn check_at(bytes: &[u8]) -> Result<(), ErrorAt>
     ensures answer { MatchResult result (λ _. IsOk (reading typed_layer bytes.now))
         (λ at. reading typed_layer bytes.now ≡ Err at.error) }
     ensures place { IfErr result (λ at. IsRejectedAt typed_layer bytes.now at.error at.place) }
-    ensures inner { IfErr result (λ at. IsErrorAt typed_layer bytes.now at.error at.place at.inner) }
+    ensures inner { IfErr result
+        (λ at. IsErrorAt typed_layer bytes.now at.error at.place at.inner) }
 {
     check_at_of::<Typed<Bytes>>(bytes)
 }

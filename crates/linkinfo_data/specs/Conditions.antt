@@ -151,9 +151,11 @@ tunnel_conditions peer well tunnel.Vti d = IsListOf (λ xs. info.Vti xs) vti_con
 tunnel_conditions peer well tunnel.Gtp d = IsListOf (λ xs. info.Gtp xs) gtp_conditions d
 tunnel_conditions peer well tunnel.Geneve d = IsListOf (λ xs. info.Geneve xs) geneve_conditions d
 tunnel_conditions peer well tunnel.Amt d = IsListOf (λ xs. info.Amt xs) amt_conditions d
-tunnel_conditions peer well tunnel.BareUdp d = IsListOf (λ xs. info.BareUdp xs) bare_udp_conditions d
+tunnel_conditions peer well tunnel.BareUdp d =
+    IsListOf (λ xs. info.BareUdp xs) bare_udp_conditions d
 tunnel_conditions peer well tunnel.ErSpan d = IsListOf (λ xs. info.ErSpan xs) gre_conditions d
-tunnel_conditions peer well tunnel.Ip6ErSpan d = IsListOf (λ xs. info.Ip6ErSpan xs) gre6_conditions d
+tunnel_conditions peer well tunnel.Ip6ErSpan d =
+    IsListOf (λ xs. info.Ip6ErSpan xs) gre6_conditions d
 
 -- End: written by tables/generate.
 
@@ -163,7 +165,8 @@ abbrev pub peered_conditions : {t : Types} → (t.Peer → Type 0) → FamilyCon
 peered_conditions peer well peered.Tun d = IsListOf (λ xs. info.Tun xs) well.tun d
 peered_conditions peer well peered.Veth d =
     IsOneOf (λ x. info.Veth x) (veth_conditions peer) d
-peered_conditions peer well peered.Wireguard d = IsListOf (λ xs. info.Wireguard xs) opaque_conditions d
+peered_conditions peer well peered.Wireguard d =
+    IsListOf (λ xs. info.Wireguard xs) opaque_conditions d
 peered_conditions peer well peered.Netkit d =
     IsListOf (λ xs. info.Netkit xs) (netkit_conditions peer) d
 peered_conditions peer well peered.Vxcan d =

@@ -232,9 +232,9 @@ impl<L: LinkLayer + Eq> DataLayer for L {
         & one_field bytes_decides
         & tt) };
 
-    ghost port_data_exact = { by_variants of_port_data.enum L.PartialEq L.Peer.ExactEq L.Bond.ExactEq
-        L.Bridge.ExactEq L.Vlan.ExactEq L.Can.ExactEq L.Hsr.ExactEq L.Dsa.ExactEq L.Tun.ExactEq
-        L.BondPort.ExactEq L.BridgePort.ExactEq _
+    ghost port_data_exact = { by_variants of_port_data.enum L.PartialEq L.Peer.ExactEq
+        L.Bond.ExactEq L.Bridge.ExactEq L.Vlan.ExactEq L.Can.ExactEq L.Hsr.ExactEq L.Dsa.ExactEq
+        L.Tun.ExactEq L.BondPort.ExactEq L.BridgePort.ExactEq _
         (one_field (pointwise_decides L.BondPort.exact)
         & one_field (pointwise_decides L.BridgePort.exact)
         & one_field (pointwise_decides vrf.exact-law)

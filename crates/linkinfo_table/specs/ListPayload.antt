@@ -39,7 +39,8 @@ module _ {C X : Type 0} (f : Family) (among : List Family) (keeping : DefaultNla
     (headers : C → Attribute → ℕ) (alike : C → Attribute → Attribute → Bool)
     (needs_memory : C → Attribute → Bool) (attribute : X → Attribute) (well : C → X → Type 0) where
   pub list_is_payload :
-      ((c : C) → IsFamily (members_at f among meaning headers alike needs_memory attribute well c)) →
+      ((c : C) →
+      IsFamily (members_at f among meaning headers alike needs_memory attribute well c)) →
       ((c : C) (a : Attribute) →
       LookupSays f among keeping attribute meaning a (lookup c (masked a.kind)) (meaning c a)) →
       (c : C) →

@@ -76,8 +76,11 @@ pub trait CustomRows<F: RowFamily> {
     /// The number of headers examined inside an attribute, up to the first error.
     ghost headers: { Attribute → ℕ };
 
-    /// Reads an attribute. Any result but the error `(Frame, 0, Memory)` is what the attribute
-    /// means.
+    /// Reads an attribute.
+    ///
+    /// An attribute that is rejected by itself has an error with its family and type. One in which
+    /// an attribute is rejected has the error of the first such attribute. Any result but the error
+    /// `(Frame, 0, Memory)` is what the attribute means.
     fn read(
         alloc: Global,
         nla: &NlaBuffer<'_>,
@@ -110,7 +113,8 @@ pub trait CustomRows<F: RowFamily> {
             (meaning_by F.RowFamily.own ctx nla.now) (memory_by F.RowFamily.own ctx nla.now)
             (headers nla.now) (length nla.now.value) count.old count.new };
 
-    /// Checks whether `read` would succeed, and returns the error if not. Does not allocate.
+    /// Checks whether `read` would succeed, and returns its error, never of memory, if not. Does
+    /// not allocate.
     fn check(
         nla: &NlaBuffer<'_>,
         ctx: F::Context,

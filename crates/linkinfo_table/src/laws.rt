@@ -130,9 +130,9 @@ pub fn errors_named<F: LinkFamily>()
         EachNamed (F.FAMILY ∷ F.inside) (first_meaning (F.meaning c) (nla_items bytes)) }
 {}
 
-/// An attribute that contains neither a list of its family nor a peer, and is rejected, needs no
-/// memory: its error is reported however much memory there is. So is the error of a list that
-/// begins with such an attribute, and of a first attribute.
+/// An attribute that contains neither a list nor a peer, and is rejected, needs no memory: its
+/// error is reported however much memory there is. So is the error of a list that begins with such
+/// an attribute, and of a first attribute.
 pub fn errors_certain<F: LinkFamily>()
     ensures attribute { (c : F.Context) (a : Attribute) (e : DecodeError) →
         HoldsNone (F.lookup c (masked a.kind)) → F.meaning c a ≡ Err e →

@@ -48,7 +48,12 @@ pub trait LinkLayer {
     /// Attributes of ports of a `bridge` link (`IFLA_BRPORT_*`).
     type BridgePort: LinkFamily<Context = ()> + Clone + Debug + Eq + ExactEq;
 
-    ghost one_type: { HaveOneType (Self.Bond.LinkFamily.alike tt) (Self.Bridge.LinkFamily.alike tt) (Self.Vlan.LinkFamily.alike tt) (Self.Can.LinkFamily.alike tt) (Self.Hsr.LinkFamily.alike tt) (Self.Dsa.LinkFamily.alike tt) (Self.Tun.LinkFamily.alike tt) (Self.BondPort.LinkFamily.alike tt) (Self.BridgePort.LinkFamily.alike tt) };
+    ghost one_type: { HaveOneType
+        (Self.Bond.LinkFamily.alike tt) (Self.Bridge.LinkFamily.alike tt)
+        (Self.Vlan.LinkFamily.alike tt) (Self.Can.LinkFamily.alike tt)
+        (Self.Hsr.LinkFamily.alike tt) (Self.Dsa.LinkFamily.alike tt)
+        (Self.Tun.LinkFamily.alike tt) (Self.BondPort.LinkFamily.alike tt)
+        (Self.BridgePort.LinkFamily.alike tt) };
 }
 
 /// The layer of a peer, whose families are opaque: each attribute is kept verbatim.

@@ -1,5 +1,4 @@
-//! Payloads that are values of types of their own: lists of attributes of another family, records,
-//! peers.
+//! Payloads that are values of types of their own: lists of attributes of another family, peers.
 
 ghost use Rattle.std.specs.Prelude.{
   ◌≡◌,
@@ -55,9 +54,11 @@ pub trait LinkPayload: Sized + Eq + ExactEq + Drop {
     /// Whether reading a payload may allocate.
     ghost needs_memory: { List ℕ → Bool };
 
-    /// Reads the payload of an attribute of this family and type without flag bits, which an error
-    /// of the payload itself has. Any result but the error `(Frame, 0, Memory)` is what the payload
-    /// means.
+    /// Reads the payload of an attribute of this family and type without flag bits.
+    ///
+    /// A payload that is rejected by itself has the error `(family, kind, cause)`. One in which an
+    /// attribute is rejected has the error of the first such attribute. Any result but the error
+    /// `(Frame, 0, Memory)` is what the payload means.
     fn read(
         alloc: Global,
         payload: &[u8],
@@ -70,7 +71,8 @@ pub trait LinkPayload: Sized + Eq + ExactEq + Drop {
             (needs_memory payload.now) (headers payload.now) (length payload.now)
             count.old count.new };
 
-    /// Checks whether `read` would succeed, and returns the error if not. Does not allocate.
+    /// Checks whether `read` would succeed, and returns its error, never of memory, if not. Does
+    /// not allocate.
     fn check(
         payload: &[u8],
         family: Family,

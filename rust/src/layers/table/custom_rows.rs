@@ -24,8 +24,11 @@ use alloc::vec::Vec;
 /// of shapes. They require that a type without a row of the list has no payload that the family
 /// reads itself. The calls on a value require the same of what it contains.
 pub trait CustomRows<F: RowFamily> {
-    /// Reads an attribute. Any result but the error `(Frame, 0, Memory)` is what the attribute
-    /// means.
+    /// Reads an attribute.
+    ///
+    /// An attribute that is rejected by itself has an error with its family and type. One in which
+    /// an attribute is rejected has the error of the first such attribute. Any result but the error
+    /// `(Frame, 0, Memory)` is what the attribute means.
     ///
     /// # Panics
     ///
@@ -50,7 +53,8 @@ pub trait CustomRows<F: RowFamily> {
         count: &mut HeaderCount,
     ) -> Result<(), DecodeError>;
 
-    /// Checks whether [`read`] would succeed, and returns the error if not. Does not allocate.
+    /// Checks whether [`read`] would succeed, and returns its error, never of memory, if not. Does
+    /// not allocate.
     ///
     /// # Panics
     ///

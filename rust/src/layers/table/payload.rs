@@ -1,7 +1,6 @@
 // @generated from crates/linkinfo_table/src/payload.rt by rust/translate/run.
 
-//! Payloads that are values of types of their own: lists of attributes of another family, records,
-//! peers.
+//! Payloads that are values of types of their own: lists of attributes of another family, peers.
 
 use crate::layers::nla_frame::{DecodeError, ExactEq, Family, HeaderCount};
 
@@ -10,9 +9,11 @@ use crate::layers::nla_frame::{DecodeError, ExactEq, Family, HeaderCount};
 ///
 /// [`layers::shapes`]: crate::layers::shapes
 pub trait LinkPayload: Sized + Eq + ExactEq {
-    /// Reads the payload of an attribute of this family and type without flag bits, which an error
-    /// of the payload itself has. Any result but the error `(Frame, 0, Memory)` is what the payload
-    /// means.
+    /// Reads the payload of an attribute of this family and type without flag bits.
+    ///
+    /// A payload that is rejected by itself has the error `(family, kind, cause)`. One in which an
+    /// attribute is rejected has the error of the first such attribute. Any result but the error
+    /// `(Frame, 0, Memory)` is what the payload means.
     ///
     /// # Panics
     ///
@@ -25,7 +26,8 @@ pub trait LinkPayload: Sized + Eq + ExactEq {
         count: &mut HeaderCount,
     ) -> Result<Self, DecodeError>;
 
-    /// Checks whether [`read`] would succeed, and returns the error if not. Does not allocate.
+    /// Checks whether [`read`] would succeed, and returns its error, never of memory, if not. Does
+    /// not allocate.
     ///
     /// # Panics
     ///
