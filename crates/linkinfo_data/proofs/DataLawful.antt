@@ -152,7 +152,7 @@ data_lawful layer is =
       -- End: written by tables/generate.
     ] in
     let ports : (f : PortFamily) →
-        IsLawful (port_data_of layer f) (port_data_payload layer) = elim [
+    IsLawful (port_data_of layer f) (port_data_payload layer) = elim [
       | port_of.Bond ↦ as_list_is_lawful layer.bond_port is.bond_port.laws
           (λ xs. port.BondPort xs) (port_data_payload layer) (λ _. refl) (λ x y e. cc)
       | port_of.Bridge ↦ as_list_is_lawful layer.bridge_port is.bridge_port.laws
