@@ -111,4 +111,5 @@ pub use linkinfo_peers::laws as peer_laws;
 pub use linkinfo_shapes::laws as shape_laws;
 pub use linkinfo_table::{laws as family_laws, layer_laws, lower_laws};
 pub use linkinfo_tunnels::laws as tunnel_laws;
+pub use linkinfo_typed::laws as typed_laws;
 pub use nla_frame::laws as frame_laws;

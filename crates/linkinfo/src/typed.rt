@@ -61,8 +61,9 @@ pub type InfoData = InfoDataOf<Typed<Bytes>>;
 /// The data of a port (`IFLA_INFO_SLAVE_DATA`), over the typed layer.
 pub type InfoPortData = InfoPortDataOf<Typed<Bytes>>;
 
-/// Validates the contents of `IFLA_LINKINFO` as `check_of` does, over the typed layer. Does not
-/// allocate.
+/// Validates the contents of `IFLA_LINKINFO`: returns `Ok` if `VecLinkInfo::parse` accepts them,
+/// otherwise the error of the bytes, which a typed attribute can cause too: one of a wrong length,
+/// `Length` with its family and type. Does not allocate.
 pub fn check(bytes: &[u8]) -> Result<(), DecodeError>
     ensures answer { result ≡ verdict (reading typed_layer bytes.now) }
     ensures no_memory { result ≢ Err memory_error }
@@ -71,7 +72,7 @@ pub fn check(bytes: &[u8]) -> Result<(), DecodeError>
 }
 
 /// Validates the contents of `IFLA_LINKINFO` as `check` does, and returns the offsets of the error
-/// beside it, as `check_at_of` does. Does not allocate.
+/// beside it. Does not allocate.
 pub fn check_at(bytes: &[u8]) -> Result<(), ErrorAt>
     ensures answer { MatchResult result (λ _. IsOk (reading typed_layer bytes.now))
         (λ at. reading typed_layer bytes.now ≡ Err at.error) }
@@ -82,8 +83,9 @@ pub fn check_at(bytes: &[u8]) -> Result<(), ErrorAt>
     check_at_of::<Typed<Bytes>>(bytes)
 }
 
-/// Returns whether two lists are equivalent, as `same_of` does, over the typed layer. The error is
-/// that of the first list, otherwise that of the second. Does not allocate.
+/// Returns whether two lists are equivalent: whether they parse as equal values, typed attributes
+/// among them. The error is that of the first list, otherwise that of the second. Does not
+/// allocate.
 pub fn same(a: &[u8], b: &[u8]) -> Result<bool, DecodeError>
     ensures answer { result
         ≡ same_answer (reading typed_layer a.now) (reading typed_layer b.now)
@@ -97,8 +99,9 @@ pub fn same(a: &[u8], b: &[u8]) -> Result<bool, DecodeError>
     same_of::<Typed<Bytes>>(a, b)
 }
 
-/// Returns the first attribute of the list `want` that the list `have` does not meet, as
-/// `first_unmet_of` does, over the typed layer. Does not allocate.
+/// Returns the first attribute of the list `want` that the list `have` does not meet, or `None`
+/// where it meets all of them; `first_unmet_of` says what is met. The error is that of `have`, else
+/// that of `want`. Does not allocate.
 pub fn first_unmet(have: &[u8], want: &[u8]) -> Result<Option<Unmet>, ErrorIn>
     ensures answer { result
         ≡ unmet_answer (reading typed_layer have.now) (reading typed_layer want.now)
@@ -108,8 +111,9 @@ pub fn first_unmet(have: &[u8], want: &[u8]) -> Result<Option<Unmet>, ErrorIn>
     first_unmet_of::<Typed<Bytes>>(have, want)
 }
 
-/// Returns the first pair of attributes in which two lists differ, as `first_difference_of` does,
-/// over the typed layer. Does not allocate.
+/// Returns the first pair of attributes in which two lists differ, or `None` if and only if the
+/// lists are equivalent (`same`). The error is that of the first list, otherwise that of the
+/// second. Does not allocate.
 pub fn first_difference(a: &[u8], b: &[u8]) -> Result<Option<Difference>, ErrorIn>
     ensures answer { result
         ≡ placed_answer (reading typed_layer a.now) (reading typed_layer b.now)
@@ -119,8 +123,8 @@ pub fn first_difference(a: &[u8], b: &[u8]) -> Result<Option<Difference>, ErrorI
     first_difference_of::<Typed<Bytes>>(a, b)
 }
 
-/// Returns the canonical encoding of the list that `bytes` encodes, as `canon_of` does, over the
-/// typed layer.
+/// Returns the canonical encoding of the list that `bytes` encodes. It fails where the bytes are
+/// rejected, an allocation fails, or the list does not fit (`CanonError`).
 pub fn canon(alloc: Global, bytes: &[u8]) -> Result<Vec<u8>, CanonError>
     ensures string { IfOk result
         (λ canonical.
@@ -134,7 +138,8 @@ pub fn canon(alloc: Global, bytes: &[u8]) -> Result<Vec<u8>, CanonError>
 }
 
 /// Writes the canonical encoding of the list that `bytes` encodes to the front of the buffer, and
-/// returns its length in bytes, as `canon_into_of` does, over the typed layer. Does not allocate.
+/// returns its length in bytes. On an error, one of those of `CanonIntoError`, the buffer is
+/// unchanged. Does not allocate.
 pub fn canon_into(bytes: &[u8], buffer: &mut [u8]) -> Result<usize, CanonIntoError>
     ensures string { IfOk result
         (λ n.
