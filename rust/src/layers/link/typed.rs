@@ -46,59 +46,61 @@ pub type InfoData = InfoDataOf<Typed<Bytes>>;
 /// The data of a port (`IFLA_INFO_SLAVE_DATA`), over the typed layer.
 pub type InfoPortData = InfoPortDataOf<Typed<Bytes>>;
 
-/// Validates the contents of `IFLA_LINKINFO` as [`check_of`] does, over the typed layer. Does not
-/// allocate.
+/// Validates the contents of `IFLA_LINKINFO`: returns `Ok` if [`VecLinkInfo::parse`] accepts them,
+/// otherwise the error of the bytes, which a typed attribute can cause too: one of a wrong length,
+/// `Length` with its family and type. Does not allocate.
 ///
-/// [`check_of`]: crate::layers::link::check_of
+/// [`VecLinkInfo::parse`]: crate::layers::link::VecLinkInfoOf::parse
 pub fn check(bytes: &[u8]) -> Result<(), DecodeError> {
     check_of::<Typed<Bytes>>(bytes)
 }
 
 /// Validates the contents of `IFLA_LINKINFO` as [`check`] does, and returns the offsets of the
-/// error beside it, as [`check_at_of`] does. Does not allocate.
+/// error beside it. Does not allocate.
 ///
 /// [`check`]: crate::layers::link::check
-/// [`check_at_of`]: crate::layers::link::check_at_of
 pub fn check_at(bytes: &[u8]) -> Result<(), ErrorAt> {
     check_at_of::<Typed<Bytes>>(bytes)
 }
 
-/// Returns whether two lists are equivalent, as [`same_of`] does, over the typed layer. The error
-/// is that of the first list, otherwise that of the second. Does not allocate.
-///
-/// [`same_of`]: crate::layers::link::same_of
+/// Returns whether two lists are equivalent: whether they parse as equal values, typed attributes
+/// among them. The error is that of the first list, otherwise that of the second. Does not
+/// allocate.
 pub fn same(a: &[u8], b: &[u8]) -> Result<bool, DecodeError> {
     same_of::<Typed<Bytes>>(a, b)
 }
 
-/// Returns the first attribute of the list `want` that the list `have` does not meet, as
-/// [`first_unmet_of`] does, over the typed layer. Does not allocate.
+/// Returns the first attribute of the list `want` that the list `have` does not meet, or `None`
+/// where it meets all of them; [`first_unmet_of`] says what is met. The error is that of `have`,
+/// else that of `want`. Does not allocate.
 ///
 /// [`first_unmet_of`]: crate::layers::link::first_unmet_of
 pub fn first_unmet(have: &[u8], want: &[u8]) -> Result<Option<Unmet>, ErrorIn> {
     first_unmet_of::<Typed<Bytes>>(have, want)
 }
 
-/// Returns the first pair of attributes in which two lists differ, as [`first_difference_of`] does,
-/// over the typed layer. Does not allocate.
+/// Returns the first pair of attributes in which two lists differ, or `None` if and only if the
+/// lists are equivalent ([`same`]). The error is that of the first list, otherwise that of the
+/// second. Does not allocate.
 ///
-/// [`first_difference_of`]: crate::layers::link::first_difference_of
+/// [`same`]: crate::layers::link::same
 pub fn first_difference(a: &[u8], b: &[u8]) -> Result<Option<Difference>, ErrorIn> {
     first_difference_of::<Typed<Bytes>>(a, b)
 }
 
-/// Returns the canonical encoding of the list that `bytes` encodes, as [`canon_of`] does, over the
-/// typed layer.
+/// Returns the canonical encoding of the list that `bytes` encodes. It fails where the bytes are
+/// rejected, an allocation fails, or the list does not fit ([`CanonError`]).
 ///
-/// [`canon_of`]: crate::layers::link::canon_of
+/// [`CanonError`]: crate::layers::link::CanonError
 pub fn canon(bytes: &[u8]) -> Result<Vec<u8>, CanonError> {
     canon_of::<Typed<Bytes>>(bytes)
 }
 
 /// Writes the canonical encoding of the list that `bytes` encodes to the front of the buffer, and
-/// returns its length in bytes, as [`canon_into_of`] does, over the typed layer. Does not allocate.
+/// returns its length in bytes. On an error, one of those of [`CanonIntoError`], the buffer is
+/// unchanged. Does not allocate.
 ///
-/// [`canon_into_of`]: crate::layers::link::canon_into_of
+/// [`CanonIntoError`]: crate::layers::link::CanonIntoError
 pub fn canon_into(bytes: &[u8], buffer: &mut [u8]) -> Result<usize, CanonIntoError> {
     canon_into_of::<Typed<Bytes>>(bytes, buffer)
 }
