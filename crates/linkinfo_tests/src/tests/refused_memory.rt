@@ -15,4 +15,5 @@ mod names;
 mod payloads;
 mod program;
 mod strings;
+mod typed;
 mod without_memory;

@@ -12,4 +12,5 @@ mod names;
 mod payloads;
 mod program;
 mod strings;
+mod typed;
 mod without_memory;

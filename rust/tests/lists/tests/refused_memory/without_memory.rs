@@ -9,8 +9,8 @@ use crate::tests::assertions::{
     assert_holds, assert_parsed,
 };
 use linkinfo::layers::link::{
-    CanonError, DecodeError, HeaderCount, InfoKind, InfoPortKind, LinkInfo, Nla, VecLinkInfo,
-    canon, check, check_counted, nlas_fit_len, nlas_to_vec, same, same_counted,
+    CanonError, Cause, DecodeError, Family, HeaderCount, InfoKind, InfoPortKind, LinkInfo, Nla,
+    VecLinkInfo, canon, check, check_counted, nlas_fit_len, nlas_to_vec, same, same_counted, typed,
 };
 
 /// An xfrm link with its underlying interface and its identifier.
@@ -62,6 +62,40 @@ fn compares() {
     let counted = same_counted(&OPEN, &CLOSED, &mut count);
     assert_equal(&"counted", &counted, &Ok(true));
     assert_equal(&"headers", &count.get(), &4);
+}
+
+/// A vlan link with a mapping of priorities.
+const VLAN: [u8; 32] = [
+    9, 0, 1, 0, b'v', b'l', b'a', b'n', 0, 0, 0, 0, 20, 0, 2, 0, 16, 0, 3, 0, 12, 0, 1, 0, 1, 0, 0,
+    0, 2, 0, 0, 0,
+];
+
+/// A vlan link with an ID of one byte.
+const SHORT_ID: [u8; 21] = [
+    9, 0, 1, 0, b'v', b'l', b'a', b'n', 0, 0, 0, 0, 9, 0, 2, 0, 5, 0, 1, 0, 7,
+];
+
+/// The error of an ID of another length.
+const ID_LENGTH: DecodeError = DecodeError {
+    family: Family::Vlan,
+    kind: 1,
+    cause: Cause::Length,
+};
+
+/// The calls over the typed layer but `canon`, with lists inside attributes.
+#[test]
+fn typed_lists() {
+    assert_equal(&"check", &typed::check(&VLAN), &Ok(()));
+    assert_equal(&"same", &typed::same(&VLAN, &XFRM), &Ok(false));
+    assert_equal(&"met", &typed::first_unmet(&VLAN, &VLAN), &Ok(None));
+    let difference = typed::first_difference(&VLAN, &VLAN);
+    assert_equal(&"difference", &difference, &Ok(None));
+    let mut buffer = [255; 32];
+    let len = typed::canon_into(&VLAN, &mut buffer);
+    assert_equal(&"length", &len, &Ok(32));
+    assert_holds(&"written", buffer == VLAN);
+    let error = typed::check_at(&SHORT_ID).err().map(|at| at.error);
+    assert_equal(&"an ID of a byte", &error, &Some(ID_LENGTH));
 }
 
 /// The encoding of a kind and a port kind.

@@ -1,0 +1,56 @@
+// @generated from crates/linkinfo_tests/src/tests/refused_memory/typed.rt by rust/translate/run.
+
+//! Lists over the typed layer that are parsed and written.
+
+use super::answers::{MEMORY, at_last, is_emitted};
+use crate::tests::assertions::{assert_equal, assert_holds};
+use linkinfo::layers::link::typed::{self, VecLinkInfo};
+use linkinfo::layers::link::{CanonError, Cause, DecodeError, Family};
+
+/// A vlan link with an ID, a list of a mapping of priorities and an attribute without a row, and an
+/// empty list.
+const VLAN: [u8; 52] = [
+    9, 0, 1, 0, b'v', b'l', b'a', b'n', 0, 0, 0, 0, 40, 0, 2, 0, 6, 0, 1, 0, 7, 0, 0, 0, 24, 0, 3,
+    0, 12, 0, 1, 0, 1, 0, 0, 0, 2, 0, 0, 0, 6, 0, 2, 0, 9, 9, 0, 0, 4, 0, 4, 0,
+];
+
+/// A vlan link with a mapping, and after it one of four bytes.
+const SHORT_MAPPING: [u8; 40] = [
+    9, 0, 1, 0, b'v', b'l', b'a', b'n', 0, 0, 0, 0, 28, 0, 2, 0, 24, 0, 3, 0, 12, 0, 1, 0, 1, 0, 0,
+    0, 2, 0, 0, 0, 8, 0, 1, 0, 0, 0, 0, 0,
+];
+
+/// The error of a mapping of another length.
+const MAPPING_LENGTH: DecodeError = DecodeError {
+    family: Family::VlanQosMapping,
+    kind: 1,
+    cause: Cause::Length,
+};
+
+/// Parses the bytes, at the second try if an allocation failed.
+fn read_at_last(bytes: &[u8]) -> Result<VecLinkInfo, DecodeError> {
+    let first = VecLinkInfo::parse(bytes);
+    let second = VecLinkInfo::parse(bytes);
+    at_last(&MEMORY, first, second)
+}
+
+#[test]
+fn list_of_mappings() {
+    let list = read_at_last(&VLAN).expect("a list");
+    let emitted = is_emitted(list.as_slice(), &VLAN);
+    assert_holds(&"written as it was", emitted);
+}
+
+#[test]
+fn error_after_a_mapping() {
+    let error = read_at_last(&SHORT_MAPPING).err();
+    assert_equal(&"error", &error, &Some(MAPPING_LENGTH));
+}
+
+#[test]
+fn canonical_encoding() {
+    let memory = CanonError::Refused(MEMORY);
+    let (first, second) = (typed::canon(&VLAN), typed::canon(&VLAN));
+    let string = at_last(&memory, first, second).expect("a string");
+    assert_equal(&"vlan", &string.as_slice(), &VLAN.as_slice());
+}
