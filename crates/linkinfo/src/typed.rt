@@ -21,17 +21,22 @@ ghost use Rattle.std.specs.Prelude.{
   IsOk,
   IsTrue,
   MatchResult,
+  Ok,
   OnErr,
   drop,
   length,
+  map,
   take,
 };
+ghost use Rattle.std.specs.List.{AllByRecursion};
 ghost use Rattle.nla_frame.specs.Answers.{verdict};
+ghost use Rattle.nla_frame.specs.Attribute.{Fits, list_string};
 ghost use Rattle.nla_frame.specs.Error.{memory_error};
 ghost use Rattle.linkinfo.specs.Canon.{CanonIsCertain, CanonRefuses, IntoRefuses, IsCanonical};
 ghost use Rattle.linkinfo.specs.Comparing.{either_error, placed_answer, same_answer};
 ghost use Rattle.linkinfo.specs.Difference.{strings_difference};
 ghost use Rattle.linkinfo.specs.Items.{link_attribute};
+ghost use Rattle.linkinfo.specs.Layered.{LinkList, Links};
 ghost use Rattle.linkinfo.specs.Placed.{IsErrorAt, IsRejectedAt};
 ghost use Rattle.linkinfo.specs.Strings.{alike_strings, reading};
 ghost use Rattle.linkinfo.specs.Unmet.{strings_unmet, unmet_answer};
@@ -95,6 +100,20 @@ pub fn same(a: &[u8], b: &[u8]) -> Result<bool, DecodeError>
     // Equivalent byte strings are those that mean equal lists.
     ensures equal { IfOk result
         (λ same. IsTrue same ↔ (reading typed_layer a.now ≡ reading typed_layer b.now)) }
+
+    // The result is that of `==` on the two lists that are parsed.
+    ensures values { (x y : LinkList typed_layer) → reading typed_layer a.now ≡ Ok x.0 →
+        reading typed_layer b.now ≡ Ok y.0 →
+        result ≡ Ok (⟦<VecLinkInfoOf<Typed<Bytes>> as PartialEq>⟧.eq x y) }
+
+    // If both lists fit, equivalent byte strings are those with one canonical encoding.
+    ensures canonical { (xs ys : Links typed_layer) → reading typed_layer a.now ≡ Ok xs →
+        reading typed_layer b.now ≡ Ok ys →
+        AllByRecursion Fits (map (link_attribute typed_layer) xs) →
+        AllByRecursion Fits (map (link_attribute typed_layer) ys) →
+        IfOk result (λ same. IsTrue same
+        ↔ (list_string (map (link_attribute typed_layer) xs)
+        ≡ list_string (map (link_attribute typed_layer) ys))) }
 {
     same_of::<Typed<Bytes>>(a, b)
 }

@@ -1,6 +1,7 @@
 //! Lists over the typed layer: worked strings of vlan links, and a link that is built.
 
 use super::assertions::{assert_emitted, assert_equal, assert_holds, bytes_of, nlas};
+use super::dumps::dumps;
 use linkinfo::typed::{self, InfoData, InfoVlan, LinkInfo, Typed, VecLinkInfo, VlanQosMapping};
 use linkinfo::{
     Bytes, Cause, DecodeError, Family, Flags, HeaderCount, InfoKind, VlanFlags, VlanProtocol,
@@ -100,6 +101,19 @@ const REPLY: &str = "09000100 766c616e 00000000 58000200 06000500 88a80000 06000
                      06000000 07000000 1c000300 0c000100 01000000 02000000 0c000100 03000000 \
                      04000000";
 
+/// The replies of Linux 6.1, 6.12 and 7.2 for a vlan link as it is made with flags and a mapping in
+/// each list, and after a change of the flags, of the second list and of the first one.
+const STORED: &[&str] = &[
+    "09000100 766c616e 00000000 40000200 06000500 88a80000 06000100 05000000 0c000200 03000000 \
+     ffffffff 10000400 0c000100 02000000 06000000 10000300 0c000100 03000000 04000000",
+    "09000100 766c616e 00000000 40000200 06000500 88a80000 06000100 05000000 0c000200 01000000 \
+     ffffffff 10000400 0c000100 02000000 06000000 10000300 0c000100 03000000 04000000",
+    "09000100 766c616e 00000000 40000200 06000500 88a80000 06000100 05000000 0c000200 01000000 \
+     ffffffff 10000400 0c000100 02000000 06000000 10000300 0c000100 03000000 05000000",
+    "09000100 766c616e 00000000 40000200 06000500 88a80000 06000100 05000000 0c000200 01000000 \
+     ffffffff 10000400 0c000100 02000000 07000000 10000300 0c000100 03000000 05000000",
+];
+
 /// Asserts that the string is rejected with this error by each call, and accepted by the calls that
 /// keep the attributes of vlan links verbatim.
 fn assert_rejected(rt: &impl Abort, alloc: Global, text: &str, error: DecodeError) {
@@ -155,6 +169,30 @@ fn canonical_vlan_links(rt: HostRuntime) {
         assert_canonical(&rt, rt.alloc(), text, canonical, *headers);
     }
     assert_canonical(&rt, rt.alloc(), REPLY, REPLY, 11);
+}
+
+#[test]
+fn stored_replies(rt: HostRuntime) {
+    for (at, text) in STORED.iter().enumerate() {
+        assert_canonical(&rt, rt.alloc(), text, text, 9);
+        let a = bytes_of(&rt, rt.alloc(), text);
+        for (other_at, other) in STORED.iter().enumerate() {
+            let b = bytes_of(&rt, rt.alloc(), other);
+            let same = at == other_at;
+            assert_equal(&rt, &(text, other), &typed::same(&a, &b), &Ok(same));
+        }
+    }
+}
+
+/// Lists without attributes of vlan links have the answers of the calls that keep these verbatim.
+#[test]
+fn replies_for_other_links(rt: HostRuntime) {
+    let alloc = rt.alloc();
+    for (name, bytes) in &dumps(&rt, alloc) {
+        assert_equal(&rt, name, &typed::check(bytes), &Ok(()));
+        let list = VecLinkInfo::parse(alloc, bytes).expect(&rt, "a list");
+        assert_emitted(&rt, alloc, list.as_slice(), bytes);
+    }
 }
 
 #[test]

@@ -3,6 +3,7 @@
 //! Lists over the typed layer: worked strings of vlan links, and a link that is built.
 
 use super::assertions::{assert_emitted, assert_equal, assert_holds, bytes_of, nlas};
+use super::dumps::dumps;
 use linkinfo::layers::link::typed::{
     self, InfoData, InfoVlan, LinkInfo, Typed, VecLinkInfo, VlanQosMapping,
 };
@@ -102,6 +103,19 @@ const REPLY: &str = "09000100 766c616e 00000000 58000200 06000500 88a80000 06000
                      06000000 07000000 1c000300 0c000100 01000000 02000000 0c000100 03000000 \
                      04000000";
 
+/// The replies of Linux 6.1, 6.12 and 7.2 for a vlan link as it is made with flags and a mapping in
+/// each list, and after a change of the flags, of the second list and of the first one.
+const STORED: &[&str] = &[
+    "09000100 766c616e 00000000 40000200 06000500 88a80000 06000100 05000000 0c000200 03000000 \
+     ffffffff 10000400 0c000100 02000000 06000000 10000300 0c000100 03000000 04000000",
+    "09000100 766c616e 00000000 40000200 06000500 88a80000 06000100 05000000 0c000200 01000000 \
+     ffffffff 10000400 0c000100 02000000 06000000 10000300 0c000100 03000000 04000000",
+    "09000100 766c616e 00000000 40000200 06000500 88a80000 06000100 05000000 0c000200 01000000 \
+     ffffffff 10000400 0c000100 02000000 06000000 10000300 0c000100 03000000 05000000",
+    "09000100 766c616e 00000000 40000200 06000500 88a80000 06000100 05000000 0c000200 01000000 \
+     ffffffff 10000400 0c000100 02000000 07000000 10000300 0c000100 03000000 05000000",
+];
+
 /// Asserts that the string is rejected with this error by each call, and accepted by the calls that
 /// keep the attributes of vlan links verbatim.
 fn assert_rejected(text: &str, error: DecodeError) {
@@ -151,6 +165,29 @@ fn canonical_vlan_links() {
         assert_canonical(text, canonical, *headers);
     }
     assert_canonical(REPLY, REPLY, 11);
+}
+
+#[test]
+fn stored_replies() {
+    for (at, text) in STORED.iter().enumerate() {
+        assert_canonical(text, text, 9);
+        let a = bytes_of(text);
+        for (other_at, other) in STORED.iter().enumerate() {
+            let b = bytes_of(other);
+            let same = at == other_at;
+            assert_equal(&(text, other), &typed::same(&a, &b), &Ok(same));
+        }
+    }
+}
+
+/// Lists without attributes of vlan links have the answers of the calls that keep these verbatim.
+#[test]
+fn replies_for_other_links() {
+    for (name, bytes) in &dumps() {
+        assert_equal(name, &typed::check(bytes), &Ok(()));
+        let list = VecLinkInfo::parse(bytes).expect("a list");
+        assert_emitted(list.as_slice(), bytes);
+    }
 }
 
 #[test]
