@@ -128,11 +128,11 @@ mod orders;
 #[doc(inline)]
 pub use layers::data::{DataLayer, InfoData, InfoDataOf, InfoPortData, InfoPortDataOf};
 #[doc(inline)]
+pub use layers::link::typed;
+#[doc(inline)]
 pub use layers::link::{
     LinkInfo, LinkInfoItem, LinkInfoOf, LinkInfoWalk, LinkXstats, VecLinkInfo, VecLinkInfoOf,
 };
-#[doc(inline)]
-pub use layers::link::typed;
 #[doc(inline)]
 pub use layers::nla_frame::{Bytes, DefaultNla, Nlas, Text, emit_nlas, nlas_fit_len};
 #[doc(inline)]
