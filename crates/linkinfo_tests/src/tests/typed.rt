@@ -5,7 +5,7 @@ use super::dumps::dumps;
 use linkinfo::typed::{self, InfoData, InfoVlan, LinkInfo, Typed, VecLinkInfo, VlanQosMapping};
 use linkinfo::{
     Bytes, Cause, DecodeError, Family, Flags, HeaderCount, InfoKind, VlanFlags, VlanProtocol,
-    check, check_counted_of, layer_laws,
+    check, check_counted_of, layer_laws, same as same_at_root,
 };
 use std::alloc::Global;
 use std::process::Abort;
@@ -152,6 +152,7 @@ fn assert_canonical(rt: &impl Abort, alloc: Global, text: &str, canonical: &str,
     let mut count = HeaderCount::new();
     let checked = check_counted_of::<Typed<Bytes>>(&bytes, &mut count);
     assert_equal(rt, &text, &(checked, count.get()), &(Ok(()), headers));
+    assert_equal(rt, &text, &check(&bytes), &Ok(()));
     assert_equal(rt, &text, &typed::same(&bytes, &wanted), &Ok(true));
     assert_equal(rt, &text, &typed::first_unmet(&bytes, &wanted), &Ok(None));
     assert_equal(
@@ -180,6 +181,7 @@ fn stored_replies(rt: HostRuntime) {
             let b = bytes_of(&rt, rt.alloc(), other);
             let same = at == other_at;
             assert_equal(&rt, &(text, other), &typed::same(&a, &b), &Ok(same));
+            assert_equal(&rt, &(text, other), &same_at_root(&a, &b), &Ok(same));
         }
     }
 }
@@ -190,6 +192,7 @@ fn replies_for_other_links(rt: HostRuntime) {
     let alloc = rt.alloc();
     for (name, bytes) in &dumps(&rt, alloc) {
         assert_equal(&rt, name, &typed::check(bytes), &Ok(()));
+        assert_equal(&rt, name, &check(bytes), &Ok(()));
         let list = VecLinkInfo::parse(alloc, bytes).expect(&rt, "a list");
         assert_emitted(&rt, alloc, list.as_slice(), bytes);
     }
@@ -201,6 +204,7 @@ fn equivalent_vlan_links(rt: HostRuntime) {
         let a = bytes_of(&rt, rt.alloc(), first);
         let b = bytes_of(&rt, rt.alloc(), second);
         assert_equal(&rt, first, &typed::same(&a, &b), &Ok(*same));
+        assert_holds(&rt, first, *same || same_at_root(&a, &b) == Ok(false));
         let difference = typed::first_difference(&a, &b).expect(&rt, "accepted lists");
         assert_holds(&rt, first, difference.is_none() == *same);
     }

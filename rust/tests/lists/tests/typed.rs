@@ -9,7 +9,7 @@ use linkinfo::layers::link::typed::{
 };
 use linkinfo::layers::link::{
     Bytes, Cause, DecodeError, Family, Flags, HeaderCount, InfoKind, VlanFlags, VlanProtocol,
-    check, check_counted_of,
+    check, check_counted_of, same as same_at_root,
 };
 
 /// Strings that are rejected, and their errors: an ID of one byte; a mapping of four bytes, also
@@ -154,6 +154,7 @@ fn assert_canonical(text: &str, canonical: &str, headers: usize) {
     let mut count = HeaderCount::new();
     let checked = check_counted_of::<Typed<Bytes>>(&bytes, &mut count);
     assert_equal(&text, &(checked, count.get()), &(Ok(()), headers));
+    assert_equal(&text, &check(&bytes), &Ok(()));
     assert_equal(&text, &typed::same(&bytes, &wanted), &Ok(true));
     assert_equal(&text, &typed::first_unmet(&bytes, &wanted), &Ok(None));
     assert_equal(&text, &typed::first_difference(&bytes, &wanted), &Ok(None));
@@ -176,6 +177,7 @@ fn stored_replies() {
             let b = bytes_of(other);
             let same = at == other_at;
             assert_equal(&(text, other), &typed::same(&a, &b), &Ok(same));
+            assert_equal(&(text, other), &same_at_root(&a, &b), &Ok(same));
         }
     }
 }
@@ -185,6 +187,7 @@ fn stored_replies() {
 fn replies_for_other_links() {
     for (name, bytes) in &dumps() {
         assert_equal(name, &typed::check(bytes), &Ok(()));
+        assert_equal(name, &check(bytes), &Ok(()));
         let list = VecLinkInfo::parse(bytes).expect("a list");
         assert_emitted(list.as_slice(), bytes);
     }
@@ -196,6 +199,7 @@ fn equivalent_vlan_links() {
         let a = bytes_of(first);
         let b = bytes_of(second);
         assert_equal(first, &typed::same(&a, &b), &Ok(*same));
+        assert_holds(first, *same || same_at_root(&a, &b) == Ok(false));
         let difference = typed::first_difference(&a, &b).expect("accepted lists");
         assert_holds(first, difference.is_none() == *same);
     }
