@@ -18,6 +18,11 @@ PROMISED = re.compile(r"returns(-|$)|loop-([\w-]+-)?(init|preserved|smaller)(-|$
 LOST = re.compile(r"has no field|is not in scope(?! here, so what is shown)|has no `"
                   r"|cannot be named from here")
 AFTER_LOST = re.compile(r"was not admitted|was not checked")
+# An error of a declaration that rests on another one, which has an error of its own.
+RESTS = re.compile(r" error: \d+ declarations? that depends? on `([\w-]+)`, which was not "
+                   r"admitted, (?:was|were) not checked: (.*)")
+# An error in a file of lemmas.
+LEMMA = re.compile(r"(\./)?proofs/\w+\.antt:\S+ error: ")
 # The goal of a stub (`rooms`), which no function has.
 UNASKED = "unasked"
 # The last line of a check, of a whole crate or of some functions.
@@ -40,6 +45,12 @@ def goal_of_error(error):
     """The goal, lemma or invariant of an explicit proof in which an error is, or nothing."""
     named = re.search(r": error: `([\w+-]+)`: ", error)
     return named[1] if named else ""
+
+
+def rests_in(lines):
+    """The declarations that have errors, by these lines, and for each those that rest on it."""
+    found = filter(None, map(RESTS.search, lines))
+    return [(it[1], {name.strip() for name in it[2].split(",")}) for it in found]
 
 
 class Report:
@@ -90,12 +101,26 @@ class Report:
                  if is_promised(edit.function, it)]
         explicit = [it for it in errors if not AFTER_LOST.search(it)
                     and is_promised(edit.function, goal_of_error(it))]
+        explicit += self.lemmas_refused(edit.function, errors)
         # Where explicit proofs fail, and name steps that are gone or are others now, a correct body
         # has open goals too. A goal that is false has no proof at all.
         if errors and edit.moves_steps or any(map(LOST.search, errors)):
             explicit, searched = [], []
             noted = [it for it in noted if "at which this goal is false" in it]
         return next(iter(explicit + searched + noted), "")
+
+    def lemmas_refused(self, function, errors):
+        """The errors of the lemmas, in files of their own, on which by these errors an explicit
+        proof of a goal that the function promises rests."""
+        names = {lemma for lemma, goals in rests_in(errors)
+                 if any(is_promised(function, it) for it in goals)}
+        above = {*()}
+        while names != above:
+            above = names
+            names = above | {lemma for lemma, others in rests_in(self.lines) if above & others}
+        told = [" ".join([it, *self.after(at)]) for at, it in enumerate(self.lines)
+                if LEMMA.match(it) and goal_of_error(it) in names]
+        return [it for it in told if not LOST.search(it)]
 
     def law_rejected(self, path, line):
         """The error that says that a law of the impl, in its own file, has no proof, or nothing."""

@@ -35,6 +35,33 @@ class Judging(unittest.TestCase):
         function = edit("nla_frame::iterator::NlasIteratorIterator::next")
         self.assertRegex(told.rejects(function), r"error: `returns")
 
+    def test_lemma_that_an_answer_rests_on(self):
+        told = report("refused_by_lemmas")
+        laws = [edit(f"linkinfo_data::laws::{it}", is_outside=True)
+                for it in ("families_lawful", "well_formed", "located")]
+        lawful, well_formed, located = map(told.rejects, laws)
+        self.assertIn("DataLawful.antt:160:59: error: `data_lawful`", lawful)
+        self.assertIn("Stated.antt:142:54: error: `data_stated`", well_formed)
+        # (which is proved)
+        self.assertEqual(located, "")
+
+    def test_lemma_below_a_lemma(self):
+        rests = ("error: 1 declaration that depends on `{}`, which was not admitted, was not "
+                 "checked: ")
+        lemma = "./proofs/Below.antt:1:1: error: `below`: the types differ"
+        above = f"./proofs/Above.antt:9:1: {rests.format('below')}above"
+        answer = f"./proofs/laws/law/Answers.antt:4:5: {rests.format('above')}returns"
+        line = "fn a::laws::law: not proved"
+        law = edit("a::laws::law")
+        told = Report("\n".join([lemma, above, answer, line, "only=1 proved=0"]), 1)
+        self.assertEqual(told.rejects(law), lemma)
+        # (a lemma on which nothing of the function rests; one that names what the edit took away)
+        apart = Report("\n".join([lemma, answer, line, "only=1 proved=0"]), 1)
+        self.assertEqual(apart.rejects(law), "")
+        lost = f"{lemma}: `x` is not in scope"
+        told = Report("\n".join([lost, above, answer, line, "only=1 proved=0"]), 1)
+        self.assertEqual(told.rejects(law), "")
+
     def test_right_body(self):
         told = report("right", 0)
         self.assertTrue(told.is_judged and told.is_proved)
