@@ -200,7 +200,7 @@ type  name  variant  layout  member  shown as
                  "        KindTag::Baz => DataFamily::Tunnel(TunnelFamily::Baz),\n"),
                 (f"{data}/src/info_data.rt", "kinds (variants)",
                  "    /// Attributes of `baz` links (`IFLA_BAZ_*`).\n    Baz(Nlas<InfoBaz>),\n"),
-                (f"{data}/src/info_data.rt", "kinds (fields)",
+                (f"{data}/src/layer.rt", "kinds (fields)",
                  "        & one_field (pointwise_decides baz.exact-law)\n"),
                 (f"{data}/specs/TunnelData.antt", "kinds (data)",
                  "tunnels_data_of t of.Baz = as_list plain.baz (λ xs. info.Baz xs)\n"),
