@@ -22,29 +22,20 @@ use Rattle.std.specs.Prelude.{
   ⊤,
   if◌then◌else◌,
 }
-use Rattle.std.specs.List.{AllByRecursion, find}
+use Rattle.std.specs.List.{AllByRecursion}
 use Rattle.std.specs.Option.{option_map}
 use Rattle.std.proofs.Common.{arith, ap, ◌∙◌, inl, inr}
 use Rattle.std.proofs.lemmas.Bool.{cases_Bool}
 use Rattle.std.proofs.lemmas.Bool.Decides.{nat_tests}
-use Rattle.nla_frame.specs.Attribute.{Attribute, aligned, masked}
+use Rattle.nla_frame.specs.Attribute.{aligned, masked}
 use Rattle.nla_frame.specs.NlaItems.{nla_items}
-use Rattle.nla_frame.specs.declared.error.Family.{Family}
 use Rattle.nla_frame.proofs.Stepping.{by_nla_items, nla_items_nil}
 use Rattle.linkinfo_table.specs.Last.{attributes_of, covers, placed_from, types_end}
 use Rattle.linkinfo_table.specs.declared.last.PlacedNla.{PlacedNla}
-use Rattle.linkinfo_data.specs.Difference.{first_or}
-use Rattle.linkinfo_data.specs.Unmet.{
-  earlier,
-  first_told,
-  list_unmet,
-  missed,
-  misses,
-  told_from,
-  unmet_at,
-}
-use Rattle.linkinfo_data.specs.declared.unmet.Unmet.{Unmet}
-use Rattle.linkinfo_data.specs.declared.unmet.UnmetAt.{UnmetAt}
+use Rattle.linkinfo_table.specs.Difference.{first_or}
+use Rattle.linkinfo_table.specs.Unmet.{earlier, first_of, first_told, told_from}
+use Rattle.linkinfo_table.specs.declared.unmet.Unmet.{Unmet}
+use Rattle.linkinfo_table.specs.declared.unmet.UnmetAt.{UnmetAt}
 
 -- ---- the attributes of a string are in order
 
@@ -210,23 +201,23 @@ all_types n unmet (p ∷ more) le =
 abbrev pub unmet_in : Option UnmetAt → Option Unmet
 unmet_in told = option_map (λ t. t.unmet) told
 
--- .. which gives the first one that is missed
-module _ (family : Family) (alike : Attribute → Attribute → Bool) (have want : List PlacedNla) where
-  pub first_missed : (list : List PlacedNla) →
-      unmet_in (first_told (λ k. true) (missed family alike have want) list)
-      ≡ option_map (unmet_at family have) (find (misses alike have want) list)
-  first_missed [] = refl
-  first_missed (p ∷ more) =
-      elim (cases_Bool (misses alike have want p)) [
-        | inl is ↦ rw is refl
-        | inr other ↦ rw other (first_missed more)
-      ]
+-- .. which gives the first one of the whole list, once no type is left
+first_step : (u : Option Unmet) (p : PlacedNla) (tail : Option UnmetAt) (rest : Option Unmet) →
+    unmet_in tail ≡ rest →
+    unmet_in (first_or (option_map (λ u. record { offset = p.offset; unmet = u }) u) tail)
+    ≡ first_or u rest
+first_step (Some u) p tail rest e = refl
+first_step None p tail rest e = e
 
--- .. of the whole list, once no type is left
-pub whole_list : (family : Family) (alike : Attribute → Attribute → Bool)
-    (have want : List PlacedNla) (n : ℕ) (first : Option UnmetAt) →
-    first ≡ first_told (λ k. nat_lt k n) (missed family alike have want) want →
-    types_end want ≤ n → unmet_in first ≡ list_unmet family alike have want
-whole_list family alike have want n first e le =
-    ap unmet_in (e ∙ all_types n (missed family alike have want) want le)
-    ∙ first_missed family alike have want want
+first_of_told : (unmet : PlacedNla → Option Unmet) (list : List PlacedNla) →
+    unmet_in (first_told (λ k. true) unmet list) ≡ first_of unmet list
+first_of_told unmet [] = refl
+first_of_told unmet (p ∷ more) =
+    first_step (unmet p) p (first_told (λ k. true) unmet more) (first_of unmet more)
+    (first_of_told unmet more)
+
+pub whole_list : (unmet : PlacedNla → Option Unmet) (want : List PlacedNla) (n : ℕ)
+    (first : Option UnmetAt) → first ≡ first_told (λ k. nat_lt k n) unmet want →
+    types_end want ≤ n → unmet_in first ≡ first_of unmet want
+whole_list unmet want n first e le =
+    ap unmet_in (e ∙ all_types n unmet want le) ∙ first_of_told unmet want
