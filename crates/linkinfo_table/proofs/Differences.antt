@@ -378,7 +378,8 @@ errors_same (ListOf l inside) n accepts alike a law at =
 
 module _ (contents : Contents) (accepts : List ℕ → Bool) (alike : List ℕ → List ℕ → Bool) where
   -- two accepted payloads differ if and only if they are not equivalent
-  pub payloads_none : IsPayloadContent contents accepts alike → (family : Family) (p q : PlacedNla) →
+  pub payloads_none : IsPayloadContent contents accepts alike → (family : Family)
+      (p q : PlacedNla) →
       accepts p.nla.value ≡ true → accepts q.nla.value ≡ true →
       is_none (payload_difference contents family (alike p.nla.value q.nla.value) p q)
       ≡ alike p.nla.value q.nla.value

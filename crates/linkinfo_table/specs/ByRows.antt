@@ -73,15 +73,15 @@ module _ {X : Type 0} (f : Family) (other : DefaultNla → X) (attribute : X →
       IsFamily (members_written_by_rows emitted headers inner contents is_set)
   written_are_family emitted written owes keeps headers quarter inner contents is_set contained =
       record {
-    alike_is = flat_alike_is f other attribute rows owes keeps;
-    quarter = quarter;
-    no_memory = flat_no_memory f other attribute rows owes keeps;
-    read_well = flat_read_well f other attribute rows owes keeps;
-    well_reads = flat_well_reads f other attribute rows owes keeps emitted written;
-    well_attribute = flat_well_attribute f other attribute rows owes keeps emitted written;
-    one_type = rows_type (λ n. row_of (rows n));
-    contained = contained;
-  }
+        alike_is = flat_alike_is f other attribute rows owes keeps;
+        quarter = quarter;
+        no_memory = flat_no_memory f other attribute rows owes keeps;
+        read_well = flat_read_well f other attribute rows owes keeps;
+        well_reads = flat_well_reads f other attribute rows owes keeps emitted written;
+        well_attribute = flat_well_attribute f other attribute rows owes keeps emitted written;
+        one_type = rows_type (λ n. row_of (rows n));
+        contained = contained;
+      }
 
   module _ (owes : (n : ℕ) → RowOwes attribute n (row_of (rows n))) where
     pub rows_are_family :

@@ -96,8 +96,8 @@ module _ {C X : Type 0} (f : Family) (among : List Family) (keeping : DefaultNla
   list_is_payload lawful says c = record {
     shaped = tt;
     codec =
-        list_of_is_codec (members_at f among meaning headers alike needs_memory attribute well contents
-      is_set c)
+        list_of_is_codec
+        (members_at f among meaning headers alike needs_memory attribute well contents is_set c)
         (lawful c);
     named = λ p e h.
         names_list f among keeping attribute lookup meaning says c p e
@@ -119,10 +119,10 @@ pub list_contained : {C X : Type 0} (f : Family) (among : List Family)
     (λ p q. alike_pairs (alike c) (nla_items p) (nla_items q))
 list_contained f among meaning headers alike needs_memory attribute well contents is_set {c = c}
     lawful = (
-  λ p.
-      inside_ok (values (meaning c) (nla_items p))
-      ∙ values_accepted (λ _ a. meaning c a) (λ t _. t) (tt {0}) (nla_items p),
-  λ p q. refl,
-  lawful.one_type,
-  lawful.contained,
-)
+      λ p.
+          inside_ok (values (meaning c) (nla_items p))
+          ∙ values_accepted (λ _ a. meaning c a) (λ t _. t) (tt {0}) (nla_items p),
+      λ p q. refl,
+      lawful.one_type,
+      lawful.contained,
+    )

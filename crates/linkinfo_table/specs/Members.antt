@@ -63,18 +63,19 @@ abbrev pub members_at : {C X : Type 0} → Family → List Family →
     (C → Attribute → Result X DecodeError) → (C → Attribute → ℕ) →
     (C → Attribute → Attribute → Bool) → (C → Attribute → Bool) → (X → Attribute) →
     (C → X → Type 0) → (C → ℕ → Contents) → Bool → C → Members X
-members_at family inner meaning headers alike needs_memory attribute well contents is_set c = record {
-  family = family;
-  inner = inner;
-  meaning = meaning c;
-  headers = headers c;
-  alike = alike c;
-  needs_memory = needs_memory c;
-  attribute = attribute;
-  well = well c;
-  contents = contents c;
-  is_set = is_set;
-}
+members_at family inner meaning headers alike needs_memory attribute well contents is_set c =
+    record {
+      family = family;
+      inner = inner;
+      meaning = meaning c;
+      headers = headers c;
+      alike = alike c;
+      needs_memory = needs_memory c;
+      attribute = attribute;
+      well = well c;
+      contents = contents c;
+      is_set = is_set;
+    }
 
 -- a payload that is a list of attributes of the family
 abbrev pub listed_of : {X : Type 0} → Members X → Contents

@@ -217,8 +217,8 @@ pub trait CustomRows<F: RowFamily> {
         requires room { length (F.canonical value.now).value ≤ length buffer.old }
         ensures { Writes (F.canonical value.now).value buffer.old buffer.new result };
 
-    /// The offset of the error of an attribute, in bytes from its header, or `None` if the attribute
-    /// is accepted: that of the innermost attribute that has it, or of the bytes where no header is
+    /// The offset of the error of an attribute, in bytes from its header, or `None` if it is
+    /// accepted: that of the innermost attribute that has it, or of the bytes where no header is
     /// accepted. Does not allocate.
     fn error_offset(nla: &NlaBuffer<'_>, ctx: F::Context) -> Option<usize>
         requires flat { owned (masked nla.now.kind) ≡ false →
@@ -230,11 +230,7 @@ pub trait CustomRows<F: RowFamily> {
     /// The first difference of two attributes of one type, or `None` if they are equivalent: in
     /// their lists if they contain lists, otherwise of both as a whole. Requires that each is
     /// accepted. Does not allocate.
-    fn difference(
-        a: &PlacedNla<'_>,
-        b: &PlacedNla<'_>,
-        ctx: F::Context,
-    ) -> Option<Difference>
+    fn difference(a: &PlacedNla<'_>, b: &PlacedNla<'_>, ctx: F::Context) -> Option<Difference>
         requires first { IsOk (meaning_by F.RowFamily.own ctx a.now.nla) }
         requires second { IsOk (meaning_by F.RowFamily.own ctx b.now.nla) }
         requires same_type { masked b.now.nla.kind ≡ masked a.now.nla.kind }
@@ -364,11 +360,7 @@ impl<F: RowFamily> CustomRows<F> for () {
         whole_error(row_check::<F>(nla, ctx))
     }
 
-    fn difference(
-        a: &PlacedNla<'_>,
-        b: &PlacedNla<'_>,
-        ctx: F::Context,
-    ) -> Option<Difference> {
+    fn difference(a: &PlacedNla<'_>, b: &PlacedNla<'_>, ctx: F::Context) -> Option<Difference> {
         let is_same = row_same::<F>(&a.nla, &b.nla, ctx);
         whole_difference(F::FAMILY, is_same, a, b)
     }
@@ -516,11 +508,7 @@ impl<F: RowFamily, R: PayloadRow<F>, Rest: CustomRows<F>> CustomRows<F> for (R, 
         }
     }
 
-    fn difference(
-        a: &PlacedNla<'_>,
-        b: &PlacedNla<'_>,
-        ctx: F::Context,
-    ) -> Option<Difference> {
+    fn difference(a: &PlacedNla<'_>, b: &PlacedNla<'_>, ctx: F::Context) -> Option<Difference> {
         if a.nla.kind() == R::NUMBER {
             payload_difference::<F, R>(a, b, ctx)
         } else {

@@ -199,11 +199,7 @@ pub trait LinkFamily: Nla + Sized + Drop {
     ///
     /// Offsets are in bytes from the beginning of the lists that the attributes are in. Requires
     /// that each is accepted. Does not allocate.
-    fn difference(
-        a: &PlacedNla<'_>,
-        b: &PlacedNla<'_>,
-        ctx: Self::Context,
-    ) -> Option<Difference>
+    fn difference(a: &PlacedNla<'_>, b: &PlacedNla<'_>, ctx: Self::Context) -> Option<Difference>
         requires first { IsOk (meaning ctx a.now.nla) }
         requires second { IsOk (meaning ctx b.now.nla) }
         requires same_type { masked b.now.nla.kind ≡ masked a.now.nla.kind }

@@ -99,20 +99,12 @@ impl<F: LinkFamily<Context = ()> + Eq + ExactEq> LinkPayload for Nlas<F> {
         Some(4 + inside)
     }
 
-    fn difference(
-        _family: Family,
-        a: &PlacedNla<'_>,
-        b: &PlacedNla<'_>,
-    ) -> Option<Difference> {
+    fn difference(_family: Family, a: &PlacedNla<'_>, b: &PlacedNla<'_>) -> Option<Difference> {
         let inside = list_difference::<F>(a.nla.value(), b.nla.value(), ())?;
         Some(inside.inside(a, b))
     }
 
-    fn unmet(
-        _family: Family,
-        have: &PlacedNla<'_>,
-        want: &PlacedNla<'_>,
-    ) -> Option<Unmet> {
+    fn unmet(_family: Family, have: &PlacedNla<'_>, want: &PlacedNla<'_>) -> Option<Unmet> {
         let inside = list_unmet::<F>(have.nla.value(), want.nla.value(), ())?;
         Some(inside.inside(want, have))
     }

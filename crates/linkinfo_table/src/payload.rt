@@ -158,11 +158,7 @@ pub trait LinkPayload: Sized + Eq + ExactEq + Drop {
     ///
     /// Offsets are in bytes from the beginning of the lists that the attributes are in. Requires
     /// that each payload is accepted. Does not allocate.
-    fn difference(
-        family: Family,
-        a: &PlacedNla<'_>,
-        b: &PlacedNla<'_>,
-    ) -> Option<Difference>
+    fn difference(family: Family, a: &PlacedNla<'_>, b: &PlacedNla<'_>) -> Option<Difference>
         requires first { IsOk (means a.now.nla.value) }
         requires second { IsOk (means b.now.nla.value) }
         requires first_room { end_of a.now < 2 ^ 64 }
@@ -178,11 +174,7 @@ pub trait LinkPayload: Sized + Eq + ExactEq + Drop {
     ///
     /// Offsets are in bytes from the beginning of the lists that the attributes are in. Requires
     /// that each payload is accepted. Does not allocate.
-    fn unmet(
-        family: Family,
-        have: &PlacedNla<'_>,
-        want: &PlacedNla<'_>,
-    ) -> Option<Unmet>
+    fn unmet(family: Family, have: &PlacedNla<'_>, want: &PlacedNla<'_>) -> Option<Unmet>
         requires have { IsOk (means have.now.nla.value) }
         requires want { IsOk (means want.now.nla.value) }
         requires have_room { end_of have.now < 2 ^ 64 }

@@ -101,20 +101,12 @@ impl<P: LinkPeer> LinkPayload for P {
         }
     }
 
-    fn difference(
-        family: Family,
-        a: &PlacedNla<'_>,
-        b: &PlacedNla<'_>,
-    ) -> Option<Difference> {
+    fn difference(family: Family, a: &PlacedNla<'_>, b: &PlacedNla<'_>) -> Option<Difference> {
         let is_same = <P as LinkPeer>::same(a.nla.value(), b.nla.value());
         whole_difference(family, is_same, a, b)
     }
 
-    fn unmet(
-        family: Family,
-        have: &PlacedNla<'_>,
-        want: &PlacedNla<'_>,
-    ) -> Option<Unmet> {
+    fn unmet(family: Family, have: &PlacedNla<'_>, want: &PlacedNla<'_>) -> Option<Unmet> {
         let is_met = have.nla.value() == want.nla.value()
             || <P as LinkPeer>::same(have.nla.value(), want.nla.value());
         unmet_as_whole(family, is_met, have, want)

@@ -205,8 +205,7 @@ fn is_like<F: LinkFamily>(have: &NlaBuffer<'_>, want: &NlaBuffer<'_>, ctx: F::Co
         && meets (F.alike ctx) have.now want.now) }
 {
     have.kind() == want.kind()
-        && (have.value() == want.value()
-            || F::same_value(have, want, ctx, &mut HeaderCount::new()))
+        && (have.value() == want.value() || F::same_value(have, want, ctx, &mut HeaderCount::new()))
 }
 
 /// The first attribute of `want` that the last one of its type in `have` does not meet.

@@ -1,6 +1,5 @@
 use Rattle.std.proofs.Common.{arith, ap, refl, sym, ◌∙◌, ◌-◌, length, IsOk, Option}
 use Rattle.std.specs.Option.{option_map}
-
 use Rattle.linkinfo_table.specs.Last.{StandsIn, attributes_of, covers}
 use Rattle.linkinfo_table.specs.Unmet.{attribute_unmet, counted_unmet, found_unmet}
 use Rattle.linkinfo_table.specs.declared.last.PlacedNla.{PlacedNla}
