@@ -9,7 +9,6 @@ pub mod MetNames
 pub mod MetReordered
 pub mod MetStays
 pub mod Naming
-pub mod PairedData
 pub mod Pairs
 pub mod Pfcp
 pub mod Places

@@ -5,10 +5,11 @@ pub mod Data
 pub mod DeviceData
 pub mod Encoding
 pub mod InfoData
+pub mod Known
+pub mod Lawful
 pub mod LayerVariants
 pub mod Layered
-pub mod Lawful
-pub mod Listed
+pub mod Lists
 pub mod Located
 pub mod LowerData
 pub mod Names

@@ -271,9 +271,13 @@ module _ {X : Type 0} (f : Family) (other : DefaultNla → X) (attribute : X →
       IsContent (contents_below levels n) n
       (λ a. is_ok (meaning_in f other (λ k. level levels k) a)) (alike_in (λ k. level levels k))
   contained_below zero n = tt
-  contained_below (suc levels) n = by (n == 5) refl
+  contained_below (suc levels) n = by (λ k. contained_below levels k) (n == 5) refl
     where
-      by : (b : Bool) → (n == 5) ≡ b →
+      by : ((k : ℕ) →
+          IsContent (contents_below levels k) k
+          (λ a. is_ok (meaning_in f other (λ k. level levels k) a))
+          (alike_in (λ k. level levels k))) →
+          (b : Bool) → (n == 5) ≡ b →
           IsContent
           (if b
           then ListOf
@@ -282,14 +286,14 @@ module _ {X : Type 0} (f : Family) (other : DefaultNla → X) (attribute : X →
           else NoList) n
           (λ a. is_ok (meaning_in f other (λ k. level (suc levels) k) a))
           (alike_in (λ k. level (suc levels) k))
-      by true e =
+      by inside true e =
           let five : n ≡ 5 = eqb-true n 5 e in (
             λ a typed. level_accepts levels a (typed ∙ five),
             λ a b typed. level_alike levels a b (typed ∙ five),
             rows_type (λ k. level levels k),
-            λ k. contained_below levels k,
+            inside,
           )
-      by false e = tt
+      by inside false e = tt
 
   pub nested_contained : (c n : ℕ) →
       IsContent (nested_contents c n) n (λ a. is_ok (meaning_in f other (λ k. at c k) a))

@@ -1,7 +1,7 @@
 //! Offsets of errors, differences and unmet attributes in a family with nested lists, by mutually
 //! recursive calls.
 
-ghost use Rattle.std.specs.Prelude.{◌≡◌, ◌<◌, ◌≤◌, ◌^◌, IfSome, IsOk, is_ok, length};
+ghost use Rattle.std.specs.Prelude.{◌≡◌, ◌+◌, ◌<◌, ◌≤◌, ◌^◌, IfSome, IsOk, is_ok, length};
 ghost use Rattle.nla_frame.specs.Attribute.{masked};
 ghost use Rattle.nla_frame.specs.NlaItems.{nla_items};
 ghost use Rattle.linkinfo_table.specs.Difference.{
