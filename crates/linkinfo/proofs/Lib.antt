@@ -1,6 +1,7 @@
 pub mod Differences
 pub mod Ending
 pub mod Items
+pub mod Listing
 pub mod Meeting
 pub mod MetAlike
 pub mod MetInside

@@ -37,12 +37,13 @@ use Rattle.linkinfo_table.specs.declared.unmet.Unmet.{Unmet}
 use Rattle.linkinfo_data.specs.Payloads.{Payload}
 use Rattle.linkinfo_data.specs.PortData.{port_data_of, port_family_of}
 use Rattle.linkinfo.specs.Items.{link_row}
-use Rattle.linkinfo.specs.Met.{AttributeMeets, AttributesMeet, Chosen, Item, ItemMeets, ListMeets}
-use Rattle.linkinfo.specs.Met.{PayloadMeets, RoleMeets, StringMeets}
+use Rattle.linkinfo.specs.Met.{AttributeMeets, AttributesMeet, Chosen, ContentsMeet, Item}
+use Rattle.linkinfo.specs.Met.{ItemMeets, ListMeets, PayloadMeets, RoleMeets, StringMeets}
 use Rattle.linkinfo.specs.Met.{items_of, last_of, nlas_of, role_of_item, type_of, type_of_item}
 use Rattle.linkinfo.specs.Strings.{reading}
 use Rattle.linkinfo.specs.Unmet.{
   Named,
+  contents_unmet,
   data_unmet,
   link_at,
   link_unmet,
@@ -117,6 +118,13 @@ list_met l inside have want =
     attributes_met l (attribute_unmet inside l.family l.alike) (AttributeMeets inside l.alike)
     (λ x y. payload_met (inside (type_of y.nla)) l.family (meets l.alike x.nla y.nla) x y) have want
 
+-- data
+contents_met : (c : Contents) (met : Bool) (h w : PlacedNla) →
+    (contents_unmet c met h w ≡ None) ↔ ContentsMeet c met h.nla w.nla
+contents_met NoList met h w = if_met family.LinkInfo met h w
+contents_met (ListOf l inside) met h w =
+    mapped_met (inner_unmet w h) _ (list_met l inside h.nla.value w.nla.value)
+
 -- ---- the list
 
 if_both : (c : Bool) (o : Option Unmet) (u : Unmet) →
@@ -147,12 +155,10 @@ module _ {L : Types} (layer : Families L) where
       role_unmet layer r h w ≡ None ↔ RoleMeets layer r h.nla w.nla
   role_met (role.Data tag) h w =
       let payload = data_of layer (family_of tag) in
-      payload_met payload.contents family.LinkInfo
-      (meets (λ a b. payload.alike a.value b.value) h.nla w.nla) h w
+      contents_met payload.contents (meets (λ a b. payload.alike a.value b.value) h.nla w.nla) h w
   role_met (role.PortData tag) h w =
       let payload = port_data_of layer (port_family_of tag) in
-      payload_met payload.contents family.LinkInfo
-      (meets (λ a b. payload.alike a.value b.value) h.nla w.nla) h w
+      contents_met payload.contents (meets (λ a b. payload.alike a.value b.value) h.nla w.nla) h w
   role_met r h w = item_met (row_alike (link_row layer r)) h w
 
   link_met : (have want : List ℕ) (h w : PlacedNla) →
@@ -256,6 +262,12 @@ pub payload_equal : (c : Contents) (met : Bool) (h w : Attribute) → IsTrue met
     h.value ≡ w.value → PayloadMeets c met h w
 payload_equal c met h w is e = by_value c met h h w e (payload_itself c met h is)
 
+contents_equal : (c : Contents) (met : Bool) (h w : Attribute) → IsTrue met →
+    h.value ≡ w.value → ContentsMeet c met h w
+contents_equal NoList met h w is e = is
+contents_equal (ListOf l inside) met h w is e =
+    subst (ListMeets l inside h.value) e (list_itself l inside h.value)
+
 pub same_names : (r : Role) (m n : Named) → m.kind ≡ n.kind → m.port ≡ n.port →
     IsTrue (same_kind r m n)
 same_names (role.Data tag) m n e f = (option_decides bytes_eq-Decides m.kind n.kind).1 e
@@ -269,11 +281,11 @@ module _ {L : Types} (layer : Families L) where
   role_equal (role.Data tag) h w e =
       let payload = data_of layer (family_of tag) in
       let alike = λ (a b : Attribute). payload.alike a.value b.value in
-      payload_equal payload.contents (meets alike h w) h w (meets_equal alike h w e) e
+      contents_equal payload.contents (meets alike h w) h w (meets_equal alike h w e) e
   role_equal (role.PortData tag) h w e =
       let payload = port_data_of layer (port_family_of tag) in
       let alike = λ (a b : Attribute). payload.alike a.value b.value in
-      payload_equal payload.contents (meets alike h w) h w (meets_equal alike h w e) e
+      contents_equal payload.contents (meets alike h w) h w (meets_equal alike h w e) e
   role_equal r h w e = meets_equal (row_alike (link_row layer r)) h w e
 
   item_itself : (item : Item) → ItemMeets layer item item
@@ -299,8 +311,8 @@ pub equal_data : {X : Type 0} (payload : Payload X) (h w : PlacedNla) →
 equal_data payload h w e =
     let alike = λ (a b : Attribute). payload.alike a.value b.value in
     let met = meets alike h.nla w.nla in
-    (payload_met payload.contents family.LinkInfo met h w).1
-    (payload_equal payload.contents met h.nla w.nla (meets_equal alike h.nla w.nla e) e)
+    (contents_met payload.contents met h w).1
+    (contents_equal payload.contents met h.nla w.nla (meets_equal alike h.nla w.nla e) e)
 
 -- the result for equal strings, the first of which is accepted
 module _ {L : Types} (layer : Families L) where

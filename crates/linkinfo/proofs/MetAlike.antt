@@ -31,7 +31,8 @@ use Rattle.linkinfo_table.specs.Lists.{alike_pairs}
 use Rattle.linkinfo_table.specs.Unmet.{meets}
 use Rattle.linkinfo_data.specs.Payloads.{IsLawful, Payload}
 use Rattle.linkinfo.specs.Items.{link_alike, link_meaning, link_row}
-use Rattle.linkinfo.specs.Met.{DataMeets, Item, ItemMeets, MembersMeet, PayloadMeets, RoleMeets}
+use Rattle.linkinfo.specs.Met.{AttributeMeets, ContentsMeet, DataMeets, Item, ItemMeets}
+use Rattle.linkinfo.specs.Met.{ListMeets, MembersMeet, PayloadMeets, RoleMeets}
 use Rattle.linkinfo.specs.Met.{items_of, items_under}
 use Rattle.linkinfo.specs.Met.{nlas_of, role_of_item, type_of, type_of_item}
 use Rattle.linkinfo.specs.Roles.{role_of}
@@ -84,20 +85,17 @@ zip_members alike all (h ∷ rest) (w ∷ more) f each =
 
 -- equivalent lists meet, given that equivalent attributes of one type do
 alike_list : (l : Listed) (inside : ℕ → Contents) → HasOneType l.alike →
-    ((x y : Attribute) → ArePair l.alike x y →
-    PayloadMeets (inside (type_of y)) (meets l.alike x y) x y) → (met : Bool) → IsTrue met →
-    (a b : Attribute) → alike_pairs l.alike (nla_items a.value) (nla_items b.value) ≡ true →
-    PayloadMeets (ListOf l inside) met a b
+    ((x y : Attribute) → ArePair l.alike x y → AttributeMeets inside l.alike x y) →
+    (p q : List ℕ) → alike_pairs l.alike (nla_items p) (nla_items q) ≡ true →
+    ListMeets l inside p q
 unfolding attributes_of
-alike_list l inside one_type each met is a b e =
-    let pairs : AllZip (ArePair l.alike) (nlas_of a.value) (nlas_of b.value) =
-    pairs_are l.alike one_type (nla_items a.value) (nla_items b.value) 0 0 e in
-    chosen l.is_whole is
-    (chosen l.is_set
-    (zip_members l.alike (nlas_of a.value) (nlas_of a.value) (nlas_of b.value) (λ test t. t) pairs)
-    (pairs_meet type_of (ArePair l.alike)
-    (λ x y. PayloadMeets (inside (type_of y)) (meets l.alike x y) x y) (λ x y r. r.0) each
-    (nlas_of a.value) (nlas_of b.value) pairs))
+alike_list l inside one_type each p q e =
+    let pairs : AllZip (ArePair l.alike) (nlas_of p) (nlas_of q) =
+    pairs_are l.alike one_type (nla_items p) (nla_items q) 0 0 e in
+    chosen l.is_set
+    (zip_members l.alike (nlas_of p) (nlas_of p) (nlas_of q) (λ test t. t) pairs)
+    (pairs_meet type_of (ArePair l.alike) (AttributeMeets inside l.alike) (λ x y r. r.0) each
+    (nlas_of p) (nlas_of q) pairs)
 
 alike_contents : (c : Contents) (n : ℕ) (accepts : Attribute → Bool)
     (alike : Attribute → Attribute → Bool) (a b : Attribute) → IsContent c n accepts alike →
@@ -108,11 +106,12 @@ alike_contents (ListOf l inside) n accepts alike a b law at e =
     let pairs =
     (and_parts (masked b.kind == masked a.kind)
     (alike_pairs l.alike (nla_items a.value) (nla_items b.value)) (sym (law.1 a b at) ∙ e)).1 in
-    alike_list l inside law.2
+    chosen l.is_whole (or_second (bytes_eq a.value b.value) (alike a b) e)
+    (alike_list l inside law.2
     (λ x y r.
     alike_contents (inside (type_of y)) (type_of y) l.accepts l.alike x y (law.3 (type_of y)) r.0
     r.1)
-    (meets alike a b) (or_second (bytes_eq a.value b.value) (alike a b) e) a b pairs
+    a.value b.value pairs)
 
 payload_alike : {X : Type 0} (payload : Payload X) (canon : X → List ℕ) →
     IsLawful payload canon → (a b : Attribute) → payload.alike a.value b.value ≡ true →
@@ -121,7 +120,7 @@ payload_alike payload canon law a b e = by_contents payload.contents law.contain
   where
     by_contents : (c : Contents) →
         IsPayloadContent c (λ p. is_ok (payload.means p)) payload.alike →
-        PayloadMeets c (meets (λ x y. payload.alike x.value y.value) a b) a b
+        ContentsMeet c (meets (λ x y. payload.alike x.value y.value) a b) a b
     by_contents NoList law =
         or_second (bytes_eq a.value b.value) (payload.alike a.value b.value) e
     by_contents (ListOf l inside) law =
@@ -129,9 +128,7 @@ payload_alike payload canon law a b e = by_contents payload.contents law.contain
         (λ x y r.
         alike_contents (inside (type_of y)) (type_of y) l.accepts l.alike x y (law.3 (type_of y))
         r.0 r.1)
-        (meets (λ x y. payload.alike x.value y.value) a b)
-        (or_second (bytes_eq a.value b.value) (payload.alike a.value b.value) e) a b
-        (sym (law.1 a.value b.value) ∙ e)
+        a.value b.value (sym (law.1 a.value b.value) ∙ e)
 
 if_same : {A : Type 0} (c d : Bool) (p q o : A) → c ≡ d → (c ≡ true → p ≡ q) →
     (if c then p else o) ≡ (if d then q else o)

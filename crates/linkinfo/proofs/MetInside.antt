@@ -1,5 +1,5 @@
 -- What is met stays met where attributes of other types are added inside data.
-use Rattle.std.specs.Prelude.{◌≡◌, ◌⊎◌, ℕ, ◌==◌, Bool, true, false, IsTrue, List, Option, None, Some}
+use Rattle.std.specs.Prelude.{◌≡◌, ◌⊎◌, ℕ, ◌==◌, Bool, IsTrue, List, Option, None, Some}
 use Rattle.std.specs.Prelude.{IfSome}
 use Rattle.std.specs.List.{AllByRecursion}
 use Rattle.std.proofs.Common.{ap, inl, inr, subst, sym, ◌∙◌}
@@ -8,12 +8,10 @@ use Rattle.linkinfo_table.proofs.Lasts.{last_holds}
 use Rattle.linkinfo_data.specs.Data.{data_of, family_of}
 use Rattle.linkinfo_table.specs.Layers.{Families, Types}
 use Rattle.linkinfo_table.specs.Contents.{Contents, ListOf, NoList}
-use Rattle.linkinfo_table.specs.Unmet.{meets}
 use Rattle.linkinfo_data.specs.PortData.{port_data_of, port_family_of}
-use Rattle.linkinfo.specs.Met.{AttributesMeet, AttributesStay, Chosen, ContentsStay, DifferInside}
-use Rattle.linkinfo.specs.Met.{HasGained, IsMet, Item, ItemMeets, PayloadMeets, RoleMeets}
-use Rattle.linkinfo.specs.Met.{StaysFor, contents_in, items_of, last_of, nlas_of, role_of_item}
-use Rattle.linkinfo.specs.Met.{type_of, type_of_item}
+use Rattle.linkinfo.specs.Met.{AttributeMeets, ContentsMeet, ContentsStay, DifferInside, HasGained}
+use Rattle.linkinfo.specs.Met.{IsMet, Item, ItemMeets, RoleMeets, StaysFor, contents_in, items_of}
+use Rattle.linkinfo.specs.Met.{last_of, role_of_item, type_of_item}
 use Rattle.linkinfo.specs.Unmet.{Named, same_kind, strings_unmet}
 use Rattle.linkinfo.specs.declared.role.Role.TheVariants as role
 use Rattle.linkinfo.specs.declared.role.Role.{Role}
@@ -21,20 +19,12 @@ use Rattle.linkinfo.proofs.Meeting.{string_met}
 use Rattle.linkinfo.proofs.MetLasts.{AreBoth, last_pair, last_typed}
 use Rattle.linkinfo.proofs.MetStays.{attributes_stay}
 
--- an attribute with such contents
+-- data
 contents_stay : (c : Contents) (old new : Bool) (h m w : Attribute) →
-    ContentsStay c w.value h.value m.value → PayloadMeets c old h w → PayloadMeets c new m w
+    ContentsStay c w.value h.value m.value → ContentsMeet c old h w → ContentsMeet c new m w
 contents_stay NoList old new h m w stay met = absurd stay
-contents_stay (ListOf l inside) old new h m w stay met = go l.is_whole stay met
-  where
-    abbrev Meets : Attribute → Attribute → Type 0
-    Meets x y = PayloadMeets (inside (type_of y)) (meets l.alike x y) x y
-
-    go : (b : Bool) → Chosen b ⊥ (AttributesStay l w.value h.value m.value) →
-        Chosen b (IsTrue old) (AttributesMeet l Meets (nlas_of h.value) (nlas_of w.value)) →
-        Chosen b (IsTrue new) (AttributesMeet l Meets (nlas_of m.value) (nlas_of w.value))
-    go true stay met = absurd stay
-    go false stay met = attributes_stay l Meets h.value m.value w.value stay met
+contents_stay (ListOf l inside) old new h m w stay met =
+    attributes_stay l (AttributeMeets inside l.alike) h.value m.value w.value stay met
 
 module _ {L : Types} (layer : Families L) where
   payload_stays : (r : Role) (h m w : Attribute) →

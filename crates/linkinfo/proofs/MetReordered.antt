@@ -1,7 +1,7 @@
 -- Lists in another order meet one another.
 use Rattle.std.specs.Prelude.{◌≡◌, ◌≢◌, ◌⊎◌, ℕ, ◌<◌, ◌^◌, ◌==◌, Bool, true, false, IsOk, IsTrue}
 use Rattle.std.specs.Prelude.{if◌then◌else◌, List, [], ◌∷◌, Option, None, Some, map, length, refl}
-use Rattle.std.specs.Prelude.{◌&&◌, IfSome, not}
+use Rattle.std.specs.Prelude.{◌&&◌, IfSome, is_some}
 use Rattle.std.specs.List.{AllByRecursion, Any, Contains, filter, last_or}
 use Rattle.std.specs.List.Sorted.{IsPermutation}
 use Rattle.std.specs.Option.{option_map}
@@ -18,13 +18,14 @@ use Rattle.nla_frame.specs.Payload.{stripped}
 use Rattle.linkinfo_table.proofs.Lasts.{last_holds}
 use Rattle.linkinfo_data.specs.Data.{data_of, family_of}
 use Rattle.linkinfo_table.specs.Layers.{Families, Types}
+use Rattle.linkinfo_data.specs.Lists.{family_in}
 use Rattle.linkinfo_data.specs.PortData.{port_data_of, port_family_of}
 use Rattle.linkinfo_table.specs.Contents.{Contents, ListOf, Listed, NoList}
 use Rattle.linkinfo_table.specs.Unmet.{list_unmet, meets}
 use Rattle.linkinfo.specs.Met.{EachHasOneLike, HasNoTypeTwice, IsLikeIn, IsReorderedData}
-use Rattle.linkinfo.specs.Met.{AttributeMeets, AttributesMeet, Chosen, IsReorderedList}
-use Rattle.linkinfo.specs.Met.{IsReordering, Item, ItemMeets, LastsMeet, MembersMeet, PayloadMeets}
-use Rattle.linkinfo.specs.Met.{RoleMeets, in_parts, is_list, items_of, items_under, last_of}
+use Rattle.linkinfo.specs.Met.{AttributeMeets, AttributesMeet, Chosen, ContentsMeet}
+use Rattle.linkinfo.specs.Met.{IsReorderedList, IsReordering, Item, ItemMeets, LastsMeet, ListMeets}
+use Rattle.linkinfo.specs.Met.{MembersMeet, RoleMeets, is_list, items_of, items_under, last_of}
 use Rattle.linkinfo.specs.Met.{name_in_list, names_in_list, nlas_of, role_of_item, type_of}
 use Rattle.linkinfo.specs.Met.{type_of_item}
 use Rattle.linkinfo.specs.Roles.{role_of}
@@ -210,68 +211,46 @@ members_like alike have IsLike equal (w ∷ more) each =
 
 -- a list in another order, given that attributes meet those with an equal payload
 attributes_reordered : (l : Listed) (Meets : Attribute → Attribute → Type 0) →
-    ((a b : Attribute) → type_of a ≡ type_of b → a.value ≡ b.value → Meets a b) → (p q : List ℕ) →
-    IsReorderedData p q →
+    ((a b : Attribute) → a.value ≡ b.value → Meets a b) → (p q : List ℕ) → IsReorderedData p q →
     AttributesMeet l Meets (nlas_of p) (nlas_of q) × AttributesMeet l Meets (nlas_of q) (nlas_of p)
 attributes_reordered l Meets equal p q order = by_set l.is_set
   where
-    abbrev IsLike : Attribute → Attribute → Type 0
-    IsLike a b = a.value ≡ b.value
-
-    abbrev Typed : Attribute → Attribute → Type 0
-    Typed a b = (type_of a ≡ type_of b) × (a.value ≡ b.value)
-
-    typed : (k : ℕ) (o s : Option Attribute) → IfSome o (λ a. type_of a ≡ k) →
-        IfSome s (λ b. type_of b ≡ k) → AreBoth IsLike o s → AreBoth Typed o s
-    typed k None None first second both = tt
-    typed k (Some a) (Some b) first second both = (first ∙ sym second, both)
-    typed k None (Some b) first second both = absurd both
-    typed k (Some a) None first second both = absurd both
-
     by_set : (b : Bool) →
         Chosen b (MembersMeet l.alike (nlas_of p) (nlas_of q))
         (LastsMeet type_of Meets (nlas_of p) (nlas_of q))
         × Chosen b (MembersMeet l.alike (nlas_of q) (nlas_of p))
         (LastsMeet type_of Meets (nlas_of q) (nlas_of p))
     by_set true = (
-      members_like l.alike (nlas_of p) (λ b a. IsLike a b) (λ w h e. sym e) (nlas_of q) order.back,
-      members_like l.alike (nlas_of q) IsLike (λ w h e. e) (nlas_of p) order.forth,
+      members_like l.alike (nlas_of p) (λ w h. h.value ≡ w.value) (λ w h e. sym e) (nlas_of q)
+          order.back,
+      members_like l.alike (nlas_of q) (λ w h. w.value ≡ h.value) (λ w h e. e) (nlas_of p)
+          order.forth,
     )
     by_set false =
-        both_lists type_of Typed Meets
-        (λ a b e. (equal a b e.0 e.1, equal b a (sym e.0) (sym e.1))) (nlas_of p) (nlas_of q)
-        (λ k.
-        typed k (last_of type_of k (nlas_of p)) (last_of type_of k (nlas_of q))
-        (last_typed type_of k (nlas_of p)) (last_typed type_of k (nlas_of q))
-        (are_both IsLike (nlas_of p) (nlas_of q) order k))
+        both_lists type_of (λ a b. a.value ≡ b.value) Meets
+        (λ a b e. (equal a b e, equal b a (sym e))) (nlas_of p) (nlas_of q)
+        (are_both (λ a b. a.value ≡ b.value) (nlas_of p) (nlas_of q) order)
+
+list_reordered : (l : Listed) (inside : ℕ → Contents) (p q : List ℕ) → IsReorderedData p q →
+    ListMeets l inside p q × ListMeets l inside q p
+list_reordered l inside p q order =
+    attributes_reordered l (AttributeMeets inside l.alike)
+    (λ a b e.
+    payload_equal (inside (type_of b)) (meets l.alike a b) a b (meets_equal l.alike a b e) e) p q
+    order
 
 pub data_reordered : (l : Listed) (inside : ℕ → Contents) (p q : List ℕ) → IsReorderedData p q →
     (list_unmet l inside p q ≡ None) × (list_unmet l inside q p ≡ None)
 data_reordered l inside p q order =
-    let both =
-    attributes_reordered l (AttributeMeets inside l.alike)
-    (λ a b _ e.
-    payload_equal (inside (type_of b)) (meets l.alike a b) a b (meets_equal l.alike a b e) e) p q
-    order in
+    let both = list_reordered l inside p q order in
     ((list_met l inside p q).1 both.0, (list_met l inside q p).1 both.1)
 
-payload_reordered : (c : Contents) (met other : Bool) (a b : Attribute) → IsTrue (in_parts c) →
-    IsReorderedData a.value b.value → PayloadMeets c met a b × PayloadMeets c other b a
-payload_reordered NoList met other a b listed order = absurd cc
-payload_reordered (ListOf l inside) met other a b listed order = go l.is_whole listed
-  where
-    abbrev Meets : Attribute → Attribute → Type 0
-    Meets x y = PayloadMeets (inside (type_of y)) (meets l.alike x y) x y
-
-    go : (w : Bool) → IsTrue (not w) →
-        Chosen w (IsTrue met) (AttributesMeet l Meets (nlas_of a.value) (nlas_of b.value))
-        × Chosen w (IsTrue other) (AttributesMeet l Meets (nlas_of b.value) (nlas_of a.value))
-    go true h = absurd cc
-    go false h =
-        attributes_reordered l Meets
-        (λ x y _ e.
-        payload_equal (inside (type_of y)) (meets l.alike x y) x y (meets_equal l.alike x y e) e)
-        a.value b.value order
+contents_reordered : (c : Contents) (met other : Bool) (a b : Attribute) →
+    IsTrue (is_some (family_in c)) → IsReorderedData a.value b.value →
+    ContentsMeet c met a b × ContentsMeet c other b a
+contents_reordered NoList met other a b listed order = absurd cc
+contents_reordered (ListOf l inside) met other a b listed order =
+    list_reordered l inside a.value b.value order
 
 -- ---- the names before an attribute of a list without a type twice
 
@@ -370,9 +349,9 @@ module _ {L : Types} (layer : Families L) where
       MeetBoth (RoleMeets layer r) a b
   like_meets r a b (inl e) = (role_equal layer r a b e, role_equal layer r b a (sym e))
   like_meets (role.Data tag) a b (inr h) =
-      payload_reordered (data_of layer (family_of tag)).contents _ _ a b h.0 h.1
+      contents_reordered (data_of layer (family_of tag)).contents _ _ a b h.0 h.1
   like_meets (role.PortData tag) a b (inr h) =
-      payload_reordered (port_data_of layer (port_family_of tag)).contents _ _ a b h.0 h.1
+      contents_reordered (port_data_of layer (port_family_of tag)).contents _ _ a b h.0 h.1
   like_meets r a b (inr h) = absurd (let e = h.0 in cc)
 
   item_meets : (r : Role) (known : Named) (x y : Item) → role_of_item y ≡ r →

@@ -1,5 +1,5 @@
 -- When a list meets another one, told without offsets, and which lists do.
-use Rattle.std.specs.Prelude.{◌≡◌, ◌⊎◌, ℕ, ◌==◌, ◌&&◌, Bool, true, false, not, IsTrue, List, [], ◌∷◌}
+use Rattle.std.specs.Prelude.{◌≡◌, ◌⊎◌, ℕ, ◌==◌, ◌&&◌, Bool, true, false, IsTrue, is_some, List, [], ◌∷◌}
 use Rattle.std.specs.Prelude.{map}
 use Rattle.std.specs.Prelude.{Option, None, Some}
 use Rattle.std.specs.List.{AllByRecursion, AllZip, Any, Contains, IsDistinct, filter, last_or}
@@ -12,6 +12,7 @@ use Rattle.linkinfo_table.specs.Last.{attributes_of}
 use Rattle.linkinfo_table.specs.Rows.{row_alike}
 use Rattle.linkinfo_data.specs.Data.{data_of, family_of}
 use Rattle.linkinfo_table.specs.Layers.{Families, Types}
+use Rattle.linkinfo_data.specs.Lists.{family_in}
 use Rattle.linkinfo_data.specs.Payloads.{Payload}
 use Rattle.linkinfo_data.specs.PortData.{port_data_of, port_family_of}
 use Rattle.linkinfo_table.specs.Unmet.{meets}
@@ -108,9 +109,13 @@ ListMeets l inside have want =
     AttributesMeet l (AttributeMeets inside l.alike) (nlas_of have) (nlas_of want)
 
 -- data: attribute by attribute where it is a list, and else as a whole
+abbrev pub ContentsMeet : Contents → Bool → Attribute → Attribute → Type 0
+ContentsMeet NoList met have want = IsTrue met
+ContentsMeet (ListOf l inside) met have want = ListMeets l inside have.value want.value
+
 abbrev pub DataMeets : {X : Type 0} → Payload X → Attribute → Attribute → Type 0
 DataMeets payload have want =
-    PayloadMeets payload.contents (meets (λ a b. payload.alike a.value b.value) have want) have want
+    ContentsMeet payload.contents (meets (λ a b. payload.alike a.value b.value) have want) have want
 
 -- an attribute of the list, by its role
 abbrev pub RoleMeets : {L : Types} → Families L → Role → Attribute → Attribute → Type 0
@@ -150,11 +155,10 @@ abbrev pub AttributesStay : Listed → List ℕ → List ℕ → List ℕ → Ty
 AttributesStay l want have more =
     Chosen l.is_set (HaveAll have more) (HaveSameLasts want have more)
 
--- .. of a payload that is met attribute by attribute
+-- .. of data that is a list
 abbrev pub ContentsStay : Contents → List ℕ → List ℕ → List ℕ → Type 0
 ContentsStay NoList want have more = ⊥
-ContentsStay (ListOf l inside) want have more =
-    Chosen l.is_whole ⊥ (AttributesStay l want have more)
+ContentsStay (ListOf l inside) want have more = AttributesStay l want have more
 
 -- a list has an attribute of a type
 abbrev pub has_type : List Attribute → ℕ → Bool
@@ -207,14 +211,9 @@ contents_in layer (role.Data tag) = (data_of layer (family_of tag)).contents
 contents_in layer (role.PortData tag) = (port_data_of layer (port_family_of tag)).contents
 contents_in layer _ = NoList
 
--- a payload that is met attribute by attribute
-abbrev pub in_parts : Contents → Bool
-in_parts NoList = false
-in_parts (ListOf l inside) = not l.is_whole
-
 -- data that is a list of attributes of a family
 abbrev pub is_list : {L : Types} → Families L → Role → Bool
-is_list layer r = in_parts (contents_in layer r)
+is_list layer r = is_some (family_in (contents_in layer r))
 
 -- the payloads are equal, or data that is a list is in another order
 abbrev pub IsLikeIn : {L : Types} → Families L → List Attribute → Attribute → Attribute → Type 0

@@ -22,6 +22,7 @@ use Rattle.nla_frame.specs.declared.error.DecodeError.{DecodeError}
 use Rattle.nla_frame.specs.declared.error.Family.TheVariants as family
 use Rattle.linkinfo_numbers.specs.Kind.{tag_of_name}
 use Rattle.linkinfo_numbers.specs.PortKind.{port_tag_of_name}
+use Rattle.linkinfo_table.specs.Contents.{Contents, ListOf, NoList}
 use Rattle.linkinfo_table.specs.Last.{attributes_of}
 use Rattle.linkinfo_table.specs.Rows.{row_alike}
 use Rattle.linkinfo_table.specs.declared.last.PlacedNla.{PlacedNla}
@@ -30,10 +31,11 @@ use Rattle.linkinfo_table.specs.Layers.{Families, Types}
 use Rattle.linkinfo_data.specs.Payloads.{Payload}
 use Rattle.linkinfo_data.specs.PortData.{port_data_of, port_family_of}
 use Rattle.linkinfo_table.specs.Unmet.{
+  inner_unmet,
   item_unmet,
   lasts_unmet,
+  list_unmet,
   meets,
-  payload_unmet,
   whole_unmet,
 }
 use Rattle.linkinfo_table.specs.declared.unmet.Unmet.{Unmet}
@@ -106,9 +108,14 @@ whole_item_unmet alike have want =
     item_unmet family.LinkInfo (meets alike have.nla want.nla) have want
 
 -- .. or an attribute in the payload, where it is a list
+abbrev pub contents_unmet : Contents → Bool → PlacedNla → PlacedNla → Option Unmet
+contents_unmet NoList met have want = item_unmet family.LinkInfo met have want
+contents_unmet (ListOf l inside) met have want =
+    option_map (inner_unmet want have) (list_unmet l inside have.nla.value want.nla.value)
+
 abbrev pub data_unmet : {X : Type 0} → Payload X → PlacedNla → PlacedNla → Option Unmet
 data_unmet payload have want =
-    payload_unmet payload.contents family.LinkInfo
+    contents_unmet payload.contents
     (meets (λ a b. payload.alike a.value b.value) have.nla want.nla) have want
 
 abbrev pub role_unmet : {L : Types} → Families L → Role → PlacedNla → PlacedNla → Option Unmet

@@ -1,5 +1,5 @@
 -- Differences and errors of data and of port data are located.
-use Rattle.std.specs.Prelude.{◌≡◌, ◌+◌, ℕ, Bool, true, List, IsTrue, is_none, is_ok}
+use Rattle.std.specs.Prelude.{◌≡◌, ◌+◌, ℕ, Bool, true, List, IsSome, is_none, is_ok}
 use Rattle.std.proofs.Common.{sym, ◌∙◌}
 use Rattle.linkinfo_table.specs.Contents.{Contents, IsPayloadContent, ListOf, NoList}
 use Rattle.linkinfo_table.specs.Difference.{inner_difference}
@@ -13,14 +13,14 @@ use Rattle.linkinfo_table.proofs.Differences.{
   ok_true,
   payloads_none,
 }
-use Rattle.linkinfo_data.specs.Lists.{contains_list, difference_in, error_in}
+use Rattle.linkinfo_data.specs.Lists.{difference_in, error_in, family_in}
 use Rattle.linkinfo_data.specs.Lawful.{AreLawful}
 use Rattle.linkinfo_data.specs.Located.{AreLocated, IsLocated}
 use Rattle.linkinfo_data.specs.Payloads.{IsLawful, Payload}
 
 -- a list has the error that an attribute with it has
 list_errs : (c : Contents) (accepts : List ℕ → Bool) (alike : List ℕ → List ℕ → Bool) →
-    IsPayloadContent c accepts alike → IsTrue (contains_list c) → (s : List ℕ) →
+    IsPayloadContent c accepts alike → IsSome (family_in c) → (s : List ℕ) →
     is_none (error_in c s) ≡ accepts s
 list_errs NoList accepts alike law is s = absurd cc
 list_errs (ListOf l inside) accepts alike law is s =
@@ -29,7 +29,7 @@ list_errs (ListOf l inside) accepts alike law is s =
 
 -- two lists differ where two attributes with them do
 list_differs : (c : Contents) (accepts : List ℕ → Bool) (alike : List ℕ → List ℕ → Bool) →
-    IsPayloadContent c accepts alike → IsTrue (contains_list c) → (s t : List ℕ) →
+    IsPayloadContent c accepts alike → IsSome (family_in c) → (s t : List ℕ) →
     accepts s ≡ true → accepts t ≡ true → is_none (difference_in c s t) ≡ alike s t
 list_differs NoList accepts alike law is s t h g = absurd cc
 list_differs (ListOf l inside) accepts alike law is s t h g =

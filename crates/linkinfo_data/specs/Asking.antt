@@ -11,7 +11,7 @@ use Rattle.std.specs.Prelude.{
   Bool,
   IfSome,
   IsOk,
-  IsTrue,
+  IsSome,
   List,
   Ok,
   Option,
@@ -41,7 +41,7 @@ use Rattle.linkinfo_table.specs.Unmet.{IsUnmetWithin}
 use Rattle.linkinfo_table.specs.declared.difference.Difference.{Difference}
 use Rattle.linkinfo_table.specs.declared.unmet.Unmet.{Unmet}
 use Rattle.linkinfo_data.specs.Encoding.{HasRoom}
-use Rattle.linkinfo_data.specs.Lists.{contains_list, difference_in, error_in, unmet_in}
+use Rattle.linkinfo_data.specs.Lists.{difference_in, error_in, family_in, unmet_in}
 use Rattle.linkinfo_data.specs.Payloads.{Payload}
 
 -- of payloads, what does not depend on the variant: as in `Payload`
@@ -118,7 +118,7 @@ WriteReady facts p buffer = IsOk (facts.verdicts p) × HasRoom (facts.canonical 
 
 -- payloads that are lists
 abbrev pub ListReady : Facts → Type 0
-ListReady facts = IsTrue (contains_list facts.contents)
+ListReady facts = IsSome (family_in facts.contents)
 
 -- the offset of the error of such a payload, if it has one
 abbrev pub ErrorFound : Facts → List ℕ → Option ℕ → Type 0

@@ -1,5 +1,5 @@
 -- Payloads that are lists of attributes.
-use Rattle.std.specs.Prelude.{ℕ, Bool, true, false, List, Option, None, Some}
+use Rattle.std.specs.Prelude.{ℕ, List, Option, None, Some}
 use Rattle.nla_frame.specs.declared.error.Family.{Family}
 use Rattle.linkinfo_table.specs.Contents.{Contents, ListOf, NoList}
 use Rattle.linkinfo_table.specs.Difference.{list_difference, list_error}
@@ -7,12 +7,7 @@ use Rattle.linkinfo_table.specs.Unmet.{list_unmet}
 use Rattle.linkinfo_table.specs.declared.difference.Difference.{Difference}
 use Rattle.linkinfo_table.specs.declared.unmet.Unmet.{Unmet}
 
--- whether payloads with these contents are lists
-abbrev pub contains_list : Contents → Bool
-contains_list NoList = false
-contains_list (ListOf l inside) = true
-
--- the family of the attributes in them, if they are lists
+-- the family of the attributes in payloads with these contents, if they are lists
 abbrev pub family_in : Contents → Option Family
 family_in NoList = None
 family_in (ListOf l inside) = Some l.family

@@ -11,7 +11,7 @@ ghost use Rattle.std.specs.Prelude.{
   ◌++◌,
   IfSome,
   IsOk,
-  IsTrue,
+  IsSome,
   drop,
   length,
 };
@@ -23,7 +23,7 @@ ghost use Rattle.linkinfo_table.specs.Lists.{Measures};
 ghost use Rattle.linkinfo_table.specs.Unmet.{IsUnmetWithin};
 ghost use Rattle.linkinfo_data.specs.Asking.{facts_of};
 ghost use Rattle.linkinfo_data.specs.Known.{IsKnown};
-ghost use Rattle.linkinfo_data.specs.Lists.{contains_list, difference_in, error_in, family_in, unmet_in};
+ghost use Rattle.linkinfo_data.specs.Lists.{difference_in, error_in, family_in, unmet_in};
 ghost use Rattle.linkinfo_data.specs.Payloads.{Payload};
 
 use crate::ask::{
@@ -143,7 +143,7 @@ pub fn write_canonical_payload<D: Drop, F: PayloadFamily<D>>(
 /// If a header is rejected, the offset is that of the header. Each header is examined at most twice.
 /// Does not allocate. Requires that payloads of this family are lists (`listing`).
 pub fn list_error<D: Drop, F: PayloadFamily<D>>(family: F, payload: &[u8]) -> Option<usize>
-    requires { IsTrue (contains_list (F.data_of family).contents) }
+    requires { IsSome (family_in (F.data_of family).contents) }
     ensures error { result ≡ error_in (F.data_of family).contents payload.now }
     ensures within { IfSome result (λ n. n ≤ length payload.now) }
 {
@@ -162,7 +162,7 @@ pub fn list_difference<D: Drop, F: PayloadFamily<D>>(
     a: &[u8],
     b: &[u8],
 ) -> Option<Difference>
-    requires listed { IsTrue (contains_list (F.data_of family).contents) }
+    requires listed { IsSome (family_in (F.data_of family).contents) }
     requires first { IsOk ((F.data_of family).means a.now) }
     requires second { IsOk ((F.data_of family).means b.now) }
     ensures difference { result ≡ difference_in (F.data_of family).contents a.now b.now }
@@ -186,7 +186,7 @@ pub fn list_unmet<D: Drop, F: PayloadFamily<D>>(
     have: &[u8],
     want: &[u8],
 ) -> Option<Unmet>
-    requires listed { IsTrue (contains_list (F.data_of family).contents) }
+    requires listed { IsSome (family_in (F.data_of family).contents) }
     requires have { IsOk ((F.data_of family).means have.now) }
     requires want { IsOk ((F.data_of family).means want.now) }
     ensures unmet { result ≡ unmet_in (F.data_of family).contents have.now want.now }
