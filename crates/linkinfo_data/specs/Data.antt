@@ -1,4 +1,5 @@
 -- Data of links: what a payload means under the kind of the link.
+use Rattle.std.specs.Prelude.{refl}
 use Rattle.linkinfo_numbers.specs.declared.tags.KindTag.{KindTag}
 use Rattle.linkinfo_numbers.specs.declared.tags.KindTag.TheVariants as tag
 use Rattle.linkinfo_data.specs.declared.data.DataFamily.{DataFamily}
@@ -11,7 +12,7 @@ use Rattle.linkinfo_data.specs.Layered.{DataOf, types_of}
 use Rattle.linkinfo_data.specs.declared.info_data.InfoDataOf.TheVariants as info
 use Rattle.linkinfo_data.specs.DeviceData.{devices_data_of, devices_known}
 use Rattle.linkinfo_table.specs.Layers.{Families, Types}
-use Rattle.linkinfo_data.specs.Known.{IsKnown, bytes_are_known}
+use Rattle.linkinfo_data.specs.Known.{IsKnown}
 use Rattle.linkinfo_data.specs.LowerData.{lower_data_of, lower_known}
 use Rattle.linkinfo_data.specs.Payloads.{Payload, as_bytes}
 use Rattle.linkinfo_data.specs.PeerData.{peers_data_of, peers_known}
@@ -76,4 +77,4 @@ data_known layer (of.Lower f) = lower_known layer f
 data_known layer (of.Device f) = devices_known (types_of layer) f
 data_known layer (of.Tunnel f) = tunnels_known (types_of layer) f
 data_known layer (of.Peered f) = peers_known layer f
-data_known layer of.Raw = bytes_are_known (λ bytes. info.Other bytes)
+data_known layer of.Raw = λ p. refl

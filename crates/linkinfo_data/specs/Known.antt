@@ -5,7 +5,7 @@ use Rattle.nla_frame.specs.NlaItems.{nla_items}
 use Rattle.nla_frame.specs.declared.error.DecodeError.{DecodeError}
 use Rattle.linkinfo_table.specs.Lists.{◌>>=◌, first_meaning, values}
 use Rattle.linkinfo_table.specs.Members.{Members}
-use Rattle.linkinfo_data.specs.Payloads.{Payload, as_bytes, as_first, as_list}
+use Rattle.linkinfo_data.specs.Payloads.{Payload, as_first, as_list}
 
 abbrev pub IsKnown : {X : Type 0} → Payload X → Type 0
 IsKnown payload = (p : List ℕ) → verdict (payload.means p) ≡ payload.verdicts p
@@ -21,6 +21,3 @@ list_is_known f label p = verdict_under (values f.meaning (nla_items p)) label
 
 pub first_is_known : {A X : Type 0} (f : Members A) (label : A → X) → IsKnown (as_first f label)
 first_is_known f label p = verdict_under (first_meaning f.meaning (nla_items p)) label
-
-pub bytes_are_known : {X : Type 0} (label : List ℕ → X) → IsKnown (as_bytes label)
-bytes_are_known label p = refl
