@@ -41,9 +41,10 @@ pub fn met_by_itself<P: DataLayer>()
 {}
 
 /// What is met stays met where other attributes are added or removed. Of data it is enough that the
-/// last attribute of each type of `want` stays, and of a set that all attributes do (`data`). A list that meets `want` meets it still
-/// after attributes of types that `want` does not have are added or removed, anywhere (`list`). So
-/// it does after such attributes are added or removed inside data that is a list (`inside`).
+/// last attribute of each type of `want` stays, and of a set that all attributes do (`data`). A list
+/// that meets `want` meets it still after attributes of types that `want` does not have are added or
+/// removed, anywhere (`list`). So it does after such attributes are added or removed inside data
+/// that is a list (`inside`).
 pub fn stays_met<P: DataLayer>()
     ensures data { (l : Listed) (inside : ℕ → Contents) (have more want : List ℕ) →
         AttributesStay l want have more →

@@ -28,12 +28,12 @@ use Rattle.linkinfo_data.proofs.Lawful.{wwan_is}
 -- End: written by tables/generate.
 use Rattle.linkinfo_table.specs.Layers.{Families, IsLayer, Types}
 use Rattle.linkinfo_data.specs.Layered.{types_of}
-use Rattle.linkinfo_data.specs.DeviceData.{devices_data_of, mac_vlan_lists, mac_vtap_lists}
+use Rattle.linkinfo_data.specs.DeviceData.{devices_data_of}
 use Rattle.linkinfo_data.specs.InfoData.{data_payload}
 use Rattle.linkinfo_data.specs.Lawful.{AreLawful}
 use Rattle.linkinfo_data.specs.LowerData.{lower_data_of}
 use Rattle.linkinfo_data.specs.Payloads.{IsLawful, as_bytes_is_lawful, as_first_is_lawful}
-use Rattle.linkinfo_data.specs.Payloads.{as_list_is_lawful, as_list_is_lawful}
+use Rattle.linkinfo_data.specs.Payloads.{as_list_is_lawful}
 use Rattle.linkinfo_data.specs.PeerData.{peers_data_of}
 use Rattle.linkinfo_data.specs.Plain.{plain}
 use Rattle.linkinfo_data.specs.PortData.{port_data_of, port_data_payload}

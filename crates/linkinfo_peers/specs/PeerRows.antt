@@ -57,7 +57,7 @@ peer_headers = headers_either 1 (λ _. 0) (λ _. 0)
 
 -- nor any list
 abbrev pub peer_contents : ℕ → Contents
-peer_contents = contents_either 1 NoList (λ _. NoList)
+peer_contents = λ n. contents_either 1 NoList (λ _. NoList) n
 
 pub peer_contained : (accepts : Attribute → Bool) (alike : Attribute → Attribute → Bool) (n : ℕ) →
     IsContent (peer_contents n) n accepts alike
