@@ -1,6 +1,7 @@
 -- Data that is a list, and data that is none.
 use Rattle.std.specs.Prelude.{◌≡◌, ◌+◌, ℕ, Bool, List, Option, None, Some, refl, unwrap_or}
 use Rattle.std.specs.Option.{option_map}
+use Rattle.std.proofs.Common.{ap, sym, ◌∙◌}
 use Rattle.nla_frame.specs.declared.error.Family.{Family}
 use Rattle.linkinfo_table.specs.Contents.{Contents, ListOf, NoList}
 use Rattle.linkinfo_table.specs.Difference.{
@@ -59,3 +60,11 @@ module _ (c : Contents) (p q : PlacedNla) where
           ≡ option_map (inner_unmet q p) (unmet_in c p.nla.value q.nla.value)
       go NoList e = absurd cc
       go (ListOf l inside) e = refl
+
+-- what is told of two lists is told of the attributes that they are in
+pub inside_told : {A B : Type 0} (tell : List ℕ → List ℕ → Option A) (f : A → B)
+    (p q x y : List ℕ) (inner : A) (outer : B) (told : Option B) → x ≡ p → y ≡ q →
+    tell x y ≡ Some inner → outer ≡ f inner → told ≡ option_map f (tell p q) → Some outer ≡ told
+inside_told tell f p q x y inner outer told first second is placed list =
+    let here = sym (ap (λ z. tell z q) first) ∙ (sym (ap (λ z. tell x z) second) ∙ is) in
+    ap (λ z. Some z) placed ∙ (sym (ap (option_map f) here) ∙ sym list)

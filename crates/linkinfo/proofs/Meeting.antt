@@ -69,7 +69,7 @@ nlas_lasts : (s : List ℕ) (k : ℕ) →
     option_map (λ p. p.nla) (last_of_type k (attributes_of s)) ≡ last_of type_of k (nlas_of s)
 nlas_lasts s k = last_mapped (λ p. p.nla) (λ a. type_of a == k) None (attributes_of s)
 
-chosen_met : (b : Bool) {P Q R S : Type 0} (o p : Option Unmet) → (o ≡ None) ↔ P →
+chosen_met : (b : Bool) {P Q : Type 0} (o p : Option Unmet) → (o ≡ None) ↔ P →
     (p ≡ None) ↔ Q → ((if b then o else p) ≡ None) ↔ Chosen b P Q
 chosen_met true o p one other = one
 chosen_met false o p one other = other

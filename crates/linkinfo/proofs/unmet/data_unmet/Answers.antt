@@ -7,8 +7,9 @@ pub returns-then-eq : goal.returns-then-eq
 returns-then-eq g c =
     let payload = g.F.PayloadFamily.data_of c.args.family in
     let same =
-    (bytes_eq-Decides c.value.result.now c.value-2.result.now).0 (sym c.eq.ensures ∙ c.if-eq.true)
+    (bytes_eq-Decides c.value-had.result.now c.value-wanted.result.now).0
+    (sym c.eq.ensures ∙ c.if-eq.true)
     in
     sym
     (equal_data payload c.args.have.now c.args.want.now
-    (sym c.value.ensures.value ∙ same ∙ c.value-2.ensures.value))
+    (sym c.value-had.ensures.value ∙ same ∙ c.value-wanted.ensures.value))
