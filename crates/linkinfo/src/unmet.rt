@@ -296,8 +296,8 @@ fn unmet_from<P: DataLayer>(have: &[u8], want: &[u8], start: u16) -> Option<Unme
 /// attribute of its type in `have`, of the same kind or port kind, has an equal payload or is
 /// equivalent. Data that is a list is compared attribute by attribute (`list_unmet`), and so are
 /// lists of another family in it, at any depth: in a list that is a set, each attribute must be met
-/// by one of its type, in any order. Names, other data, statistics, lists of addresses, and lists of
-/// the family itself are compared as a whole, with their order and the flags inside. Flags of an
+/// by one of its type, in any order. Names, other data, statistics, lists of addresses, and lists
+/// of the family itself are compared as a whole, with their order and the flags inside. Flags of an
 /// attribute's own type do not matter. Empty data is met by data alone.
 ///
 /// Of what is not met, `family` is that of the innermost attribute that is told, or

@@ -22,9 +22,9 @@ use linkinfo_data::laws::families_lawful;
 /// aside, the last attribute is met by the last one of that type in `have`.
 ///
 /// An attribute inside data is met by an equal payload or an equivalent attribute, and one with a
-/// list of another family attribute by attribute; each attribute of a set is met by one of its type,
-/// in any order (`data`). An attribute of the list is met under the same kind, or port kind, by
-/// name: by an equal payload or an equivalent attribute, and data that is a list as in `data`
+/// list of another family attribute by attribute; each attribute of a set is met by one of its
+/// type, in any order (`data`). An attribute of the list is met under the same kind, or port kind,
+/// by name: by an equal payload or an equivalent attribute, and data that is a list as in `data`
 /// (`list`).
 pub fn met_by_last<P: DataLayer>()
     ensures data { (l : Listed) (inside : ℕ → Contents) (have want : List ℕ) →
@@ -41,10 +41,10 @@ pub fn met_by_itself<P: DataLayer>()
 {}
 
 /// What is met stays met where other attributes are added or removed. Of data it is enough that the
-/// last attribute of each type of `want` stays, and of a set that all attributes do (`data`). A list
-/// that meets `want` meets it still after attributes of types that `want` does not have are added or
-/// removed, anywhere (`list`). So it does after such attributes are added or removed inside data
-/// that is a list (`inside`).
+/// last attribute of each type of `want` stays, and of a set that all attributes do (`data`). A
+/// list that meets `want` meets it still after attributes of types that `want` does not have are
+/// added or removed, anywhere (`list`). So it does after such attributes are added or removed
+/// inside data that is a list (`inside`).
 pub fn stays_met<P: DataLayer>()
     ensures data { (l : Listed) (inside : ℕ → Contents) (have more want : List ℕ) →
         AttributesStay l want have more →

@@ -26,8 +26,8 @@ pub use devices::DeviceFamily;
 pub use families::{Plain, PlainFamilies};
 pub use info_data::{InfoData, InfoDataOf};
 pub use layer::DataLayer;
-pub use lower::LowerFamily;
 pub use linkinfo_table::{Difference, Unmet};
+pub use lower::LowerFamily;
 pub use payload_family::{
     PayloadFamily, check_payload, list_difference, list_error, list_unmet, measure_payload,
     same_payloads, write_canonical_payload,

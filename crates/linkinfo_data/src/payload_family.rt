@@ -137,11 +137,11 @@ pub fn write_canonical_payload<D: Drop, F: PayloadFamily<D>>(
     family.ask(WriteCanonical { payload }, &mut HeaderCount::new(), buffer)
 }
 
-/// Returns the offset, in bytes from the beginning of a payload, of the innermost attribute that has
-/// the payload's error, in lists at any depth, or `None` if the payload is accepted.
+/// Returns the offset, in bytes from the beginning of a payload, of the innermost attribute that
+/// has the payload's error, in lists at any depth, or `None` if the payload is accepted.
 ///
-/// If a header is rejected, the offset is that of the header. Each header is examined at most twice.
-/// Does not allocate. Requires that payloads of this family are lists (`listing`).
+/// If a header is rejected, the offset is that of the header. Each header is examined at most
+/// twice. Does not allocate. Requires that payloads of this family are lists (`listing`).
 pub fn list_error<D: Drop, F: PayloadFamily<D>>(family: F, payload: &[u8]) -> Option<usize>
     requires { IsSome (family_in (F.data_of family).contents) }
     ensures error { result ≡ error_in (F.data_of family).contents payload.now }

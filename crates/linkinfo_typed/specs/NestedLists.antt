@@ -122,8 +122,8 @@ pub holds_list : {X Y : Type 0} {within : List Family} {contents : ℕ → Conte
     attribute (label xs) ≡ record { kind = kind; value = list_string (map inner.attribute xs) }) →
     contents number ≡ listed_of inner →
     HoldsListOf
-    (members_written_by_rows family other attribute rows attribute (headers_by lists) within contents
-    is_set) inner number kind label
+    (members_written_by_rows family other attribute rows attribute (headers_by lists) within
+    contents is_set) inner number kind label
 holds_list family other attribute rows lists inner shape nested number kind label row count keeps
     contains = record {
       means = row_means family other rows inner shape nested number label row;

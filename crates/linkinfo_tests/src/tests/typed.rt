@@ -168,8 +168,8 @@ fn equivalent_vlan_links(rt: HostRuntime) {
     }
 }
 
-/// Strings that are rejected inside data at offset 12, and the offset of the innermost attribute that
-/// has the error, or of the bytes that are no header: an ID; the first mapping of a list; the
+/// Strings that are rejected inside data at offset 12, and the offset of the innermost attribute
+/// that has the error, or of the bytes that are no header: an ID; the first mapping of a list; the
 /// second one; a byte in place of the first mapping; and one after it.
 const INNER: &[(&str, usize)] = &[
     ("09000100 766c616e 00000000 09000200 05000100 07", 16),
@@ -198,13 +198,16 @@ fn places_of_errors_in_vlan_links(rt: HostRuntime) {
     }
 }
 
-/// The lists of the tests below: the mappings 1 to 2 and 3 to 4, in this order and in the other one;
-/// 1 to 2 alone; and 1 to 3 alone, in a list after a shorter name.
+/// The lists of the tests below: the mappings 1 to 2 and 3 to 4, in this order and in the other
+/// one; 1 to 2 alone; and 1 to 3 alone, in a list after a shorter name.
 const TWO: &str = "09000100 766c616e 00000000 20000200 1c000300 0c000100 01000000 02000000 \
                    0c000100 03000000 04000000";
+
 const TURNED: &str = "09000100 766c616e 00000000 20000200 1c000300 0c000100 03000000 04000000 \
                       0c000100 01000000 02000000";
+
 const ONE: &str = "09000100 766c616e 00000000 14000200 10000300 0c000100 01000000 02000000";
+
 const OTHER: &str = "08000100 766c616e 14000200 10000300 0c000100 01000000 03000000";
 
 /// Two lists, and their first difference: of mappings in lists, of which the second may have ended.
@@ -234,9 +237,9 @@ fn differences_in_lists_of_vlan_links(rt: HostRuntime) {
     }
 }
 
-/// Lists, and what the mappings 1 to 2 and 3 to 4 do not meet of them: nothing of either mapping, in
-/// any order, and with a flag bit of its type; one that is not there; an attribute of a mapping list
-/// that has another type; and a list that is not there.
+/// Lists, and what the mappings 1 to 2 and 3 to 4 do not meet of them: nothing of either mapping,
+/// in any order, and with a flag bit of its type; one that is not there; an attribute of a mapping
+/// list that has another type; and a list that is not there.
 const WANTED: &[(&str, Option<(Family, u16, usize)>)] = &[
     (TWO, None),
     (TURNED, None),
