@@ -72,7 +72,7 @@ use Rattle.linkinfo_table.specs.Difference.{
   typed_difference,
 }
 use Rattle.linkinfo_table.specs.Last.{StandsIn, attributes_of, placed_from}
-use Rattle.linkinfo_table.specs.Lists.{◌>>=◌, alike_pairs, alike_under, values, values_under}
+use Rattle.linkinfo_table.specs.Lists.{◌>>=◌, alike_pairs, alike_under, values}
 use Rattle.linkinfo_table.specs.declared.difference.Difference.{Difference}
 use Rattle.linkinfo_table.specs.declared.last.PlacedNla.{PlacedNla}
 

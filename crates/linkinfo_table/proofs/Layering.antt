@@ -1,6 +1,5 @@
 -- A family that a layer supplies, by the laws that each family has: it is lawful, and its errors
 -- have its name or that of a family inside.
-use Rattle.std.specs.Prelude.{ℕ}
 use Rattle.nla_frame.specs.Attribute.{Attribute, masked}
 use Rattle.linkinfo_table.specs.ErrorNames.{names_list}
 use Rattle.linkinfo_table.specs.Layers.{IsSupplied}

@@ -1,8 +1,4 @@
-use Rattle.std.proofs.Common.{arith, ap, sym, ◌∙◌, ◌+◌, is_ok, length, List, ℕ}
-use Rattle.std.specs.Option.{option_map}
-use Rattle.nla_frame.specs.Attribute.{masked}
-use Rattle.linkinfo_table.specs.Contents.{Contents}
-use Rattle.linkinfo_table.specs.Difference.{list_error, payload_error}
+use Rattle.std.proofs.Common.{arith, sym, ◌∙◌}
 use Rattle.linkinfo_table.specs.FamilyMeaning.{alike_by, meaning_by}
 use Rattle.linkinfo_table.proofs.Differences.{error_passes}
 use Rattle.linkinfo_devices.specs.Nested.{self_listed}

@@ -1,8 +1,8 @@
 use Rattle.std.specs.Prelude.{IsOk}
-use Rattle.std.specs.List.{AllByRecursion, list_any}
+use Rattle.std.specs.List.{list_any}
 use Rattle.std.proofs.Common.{◌≡◌, ◌*◌, ◌+◌, ◌≤◌, length}
 use Rattle.nla_frame.specs.NlaItems.{nla_items}
-use Rattle.linkinfo_table.specs.Last.{StandsIn, attributes_of}
+use Rattle.linkinfo_table.specs.Last.{attributes_of}
 use Rattle.linkinfo_table.specs.Lists.{values}
 use Rattle.linkinfo_table.specs.Unmet.{is_like}
 use Rattle.linkinfo_table.proofs.Lasts.{left_of}
