@@ -198,9 +198,12 @@ fn places_of_errors_in_vlan_links() {
 /// one; 1 to 2 alone; and 1 to 3 alone, in a list after a shorter name.
 const TWO: &str = "09000100 766c616e 00000000 20000200 1c000300 0c000100 01000000 02000000 \
                    0c000100 03000000 04000000";
+
 const TURNED: &str = "09000100 766c616e 00000000 20000200 1c000300 0c000100 03000000 04000000 \
                       0c000100 01000000 02000000";
+
 const ONE: &str = "09000100 766c616e 00000000 14000200 10000300 0c000100 01000000 02000000";
+
 const OTHER: &str = "08000100 766c616e 14000200 10000300 0c000100 01000000 03000000";
 
 /// Two lists, and their first difference: of mappings in lists, of which the second may have ended.
