@@ -10,9 +10,11 @@ LAYOUTS = ["layout", "field", "variable", "read", "exact", "rejects"]
 NEST = "Nested"       # the layout of a list of another family
 COLUMNS = ["type", "name", "variant", "layout", "member", "shown as"]
 KEYS = ["family", "links", "names", "twin", "tables", "header", "about", "note", "alias", "rows"]
-LAYERED = ("typed ", "inner ")      # the families of the typed layer, and those inside them
+INNER = ("inner ", "inner set ")    # the families of lists inside others, and those that are sets
+LAYERED = ("typed ", *INNER)        # the families of the typed layer, and those inside them
 FAMILY = re.compile(
-    r"(\w+)(?: and (\w+))?(?:, (by hand |typed |inner )?in (\w+)(?:::(\w+)(?: and (\w+))?)?)?")
+    r"(\w+)(?: and (\w+))?"
+    r"(?:, (by hand |typed |inner |inner set )?in (\w+)(?:::(\w+)(?: and (\w+))?)?)?")
 
 
 # What follows from the layout of a payload, a `Shape`: the type of the variant's field, if it has
@@ -91,7 +93,7 @@ class Family:
         self.name, self.twin, how, self.crate, module, other = where.groups()
         self.table, self.title = name, table.title
         self.flat, self.layered = bool(self.crate) and how != "by hand ", how in LAYERED
-        self.inner = how == "inner "
+        self.inner, self.is_set = how in INNER, how == "inner set "
         self.families = [self.name, *[self.twin] * bool(self.twin)]
         self.type, self.snake = "Info" * (not self.inner) + self.name, snake(self.name)
         self.module, self.constant = module or self.snake, self.snake.upper()

@@ -182,6 +182,7 @@ def custom(family, inner):
     inside = dict.fromkeys((row["inner_it"], row["inner_spec"]) for row in inner)
     return {
         "nested": bool(inner), "flat": not inner, "is_inner": family.inner,
+        "is_set": str(family.is_set).lower(),
         "of_family": bool(inner) or family.inner, "inner_types": "\n".join(
             f"use crate::{module}::{name};" for module, name in dict.fromkeys(
                 (row["inner_module"], row["inner"]) for row in inner)),

@@ -10,28 +10,24 @@ use Rattle.linkinfo_table.proofs.Lasts.{left_at_start, left_of}
 use Rattle.linkinfo_table.specs.Last.{attributes_of}
 use Rattle.linkinfo_table.specs.Rows.{row_alike}
 use Rattle.linkinfo_table.specs.declared.last.PlacedNla.{PlacedNla}
-use Rattle.linkinfo_data.specs.Data.{data_known, data_nest, data_nested_in, data_of, family_of}
-use Rattle.linkinfo_data.specs.Difference.{differ, first_or, inner_difference}
-use Rattle.linkinfo_data.specs.Difference.{pairs_difference}
+use Rattle.linkinfo_table.specs.Difference.{differ, first_or, pairs_difference}
 use Rattle.linkinfo_table.specs.Layers.{Families, Types}
-use Rattle.linkinfo_data.specs.Listed.{IsKnown, IsNested}
-use Rattle.linkinfo_data.specs.Listing.{Listing, family_in}
-use Rattle.linkinfo_data.specs.Payloads.{Payload}
-use Rattle.linkinfo_data.specs.PortData.{port_data_of, port_family_of, port_known, port_nest}
-use Rattle.linkinfo_data.specs.declared.difference.Difference.{Difference}
-use Rattle.linkinfo_data.proofs.Differences.{
-  list_same,
-  mapped_none,
+use Rattle.linkinfo_table.specs.ListPayload.{values_accepted}
+use Rattle.linkinfo_table.specs.declared.difference.Difference.{Difference}
+use Rattle.linkinfo_table.proofs.Differences.{
   ok_true,
   pair_none,
   pairs_none,
+  payloads_none,
   true_ok,
 }
-use Rattle.linkinfo_data.proofs.Differences.{values_accepted}
+use Rattle.linkinfo_data.specs.Data.{data_of, family_of}
+use Rattle.linkinfo_data.specs.Lawful.{AreLawful}
+use Rattle.linkinfo_data.specs.Payloads.{IsLawful, Payload}
+use Rattle.linkinfo_data.specs.PortData.{port_data_of, port_family_of}
 use Rattle.linkinfo.specs.Difference.{
   data_difference,
   link_difference,
-  payload_difference,
   role_difference,
 }
 use Rattle.linkinfo.specs.Difference.{strings_difference}
@@ -47,26 +43,15 @@ use Rattle.linkinfo.proofs.Steps.{meaning_is, meant}
 use Rattle.linkinfo.proofs.Unmets.{data_ok, port_ok}
 
 -- data has a difference if and only if it is not equivalent
-module _ {F X : Type 0} (data_of : F → Payload X) (nested_in : F → Option (ℕ × F))
-    (known : (f : F) → IsKnown (data_of f))
-    (nest : (f : F) → IsNested data_of f (nested_in f)) where
-  data_none : (f : F) (p q : PlacedNla) → IsOk ((data_of f).means p.nla.value) →
-      IsOk ((data_of f).means q.nla.value) →
-      is_none (data_difference (data_of f) p q) ≡ (data_of f).alike p.nla.value q.nla.value
-  data_none f p q first second = by_listing (data_of f).listing refl
-    where
-      by_listing : (o : Option Listing) → (data_of f).listing ≡ o →
-          is_none (payload_difference o (data_of f).alike p q)
-          ≡ (data_of f).alike p.nla.value q.nla.value
-      by_listing None e = pair_none family.LinkInfo ((data_of f).alike p.nla.value q.nla.value) p q
-      by_listing (Some listing) e =
-          let named = ap family_in e in
-          let same =
-          list_same data_of nested_in known nest f listing.family p.nla.value q.nla.value named
-          first second in
-          mapped_none (inner_difference p q) _ ∙ (rw e at same)
+data_none : {X : Type 0} (payload : Payload X) (canon : X → List ℕ) → IsLawful payload canon →
+    (p q : PlacedNla) → IsOk (payload.means p.nla.value) → IsOk (payload.means q.nla.value) →
+    is_none (data_difference payload p q) ≡ payload.alike p.nla.value q.nla.value
+data_none payload canon law p q first second =
+    payloads_none payload.contents (λ s. is_ok (payload.means s)) payload.alike law.contained
+    family.LinkInfo p q (ok_true (payload.means p.nla.value) first)
+    (ok_true (payload.means q.nla.value) second)
 
-module _ {L : Types} (layer : Families L) where
+module _ {L : Types} (layer : Families L) (law : AreLawful layer) where
   typed : (b c : Bool) → b ≡ true → (b && c) ≡ c
   typed true c e = refl
   typed false c e = absurd cc
@@ -75,15 +60,13 @@ module _ {L : Types} (layer : Families L) where
       IsOk (meant layer r p.nla) → IsOk (meant layer r q.nla) →
       is_none (role_difference layer r p q) ≡ row_alike (link_row layer r) p.nla q.nla
   role_none (role.Data tag) p q e first second =
-      data_none (data_of layer) data_nested_in (data_known layer) (data_nest layer)
-      (family_of tag) p q
+      data_none (data_of layer (family_of tag)) _ (law.link (family_of tag)) p q
       (data_ok layer tag (role.Data tag) p.nla refl first)
       (data_ok layer tag (role.Data tag) q.nla refl second)
       ∙ sym (typed (masked q.nla.kind == masked p.nla.kind) _
       (eq-eqb (masked q.nla.kind) (masked p.nla.kind) e))
   role_none (role.PortData tag) p q e first second =
-      data_none (port_data_of layer) (λ _. None) (port_known layer) (port_nest layer)
-      (port_family_of tag) p q
+      data_none (port_data_of layer (port_family_of tag)) _ (law.port (port_family_of tag)) p q
       (port_ok layer tag (role.PortData tag) p.nla refl first)
       (port_ok layer tag (role.PortData tag) q.nla refl second)
       ∙ sym (typed (masked q.nla.kind == masked p.nla.kind) _
@@ -147,6 +130,7 @@ module _ {L : Types} (layer : Families L) where
       sym (role_none r p q e first second)
       ∙ ap (λ (o : Option Difference). is_none o) (sym is ∙ none)
 
+module _ {L : Types} (layer : Families L) where
   abbrev pub left_difference : CurrentKinds → List PlacedNla → List PlacedNla → Option Difference
   left_difference t ps qs =
       pairs_difference family.LinkInfo (link_difference layer) next_kinds t ps qs

@@ -1,6 +1,7 @@
 pub mod Differences
 pub mod Ending
 pub mod Items
+pub mod Listing
 pub mod Meeting
 pub mod MetAlike
 pub mod MetInside
@@ -9,7 +10,6 @@ pub mod MetNames
 pub mod MetReordered
 pub mod MetStays
 pub mod Naming
-pub mod PairedData
 pub mod Pairs
 pub mod Pfcp
 pub mod Places

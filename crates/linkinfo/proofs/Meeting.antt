@@ -1,44 +1,65 @@
 -- What is met, without offsets. Each list is met by itself, and stays met if others are added.
-use Rattle.std.specs.Prelude.{◌≡◌, ◌↔◌, ℕ, ◌==◌, ◌||◌, Bool, true, false, if◌then◌else◌, IsTrue}
-use Rattle.std.specs.Prelude.{List, Option, None, Some, Result, Ok, Err, map, refl}
+use Rattle.std.specs.Prelude.{◌≡◌, ◌↔◌, ℕ, ◌==◌, ◌&&◌, ◌||◌, Bool, true, false, if◌then◌else◌}
+use Rattle.std.specs.Prelude.{IsTrue}
+use Rattle.std.specs.Prelude.{List, [], ◌∷◌, Option, None, Some, Result, Ok, Err, map, refl}
+use Rattle.std.specs.List.{AllByRecursion, list_any}
 use Rattle.std.specs.Option.{option_map}
 use Rattle.std.specs.Str.{bytes_eq}
 use Rattle.std.proofs.Common.{ap, subst, ◌∙◌}
+use Rattle.std.proofs.lemmas.Bool.{and_from, eq-eqb}
 use Rattle.std.proofs.lemmas.Slice.Eq.{bytes_eq-Decides}
 use Rattle.nla_frame.specs.Answers.{verdict}
 use Rattle.nla_frame.specs.Attribute.{Attribute}
 use Rattle.nla_frame.specs.NlaItems.{nla_items}
 use Rattle.nla_frame.specs.declared.error.DecodeError.{DecodeError}
 use Rattle.nla_frame.specs.declared.error.Family.{Family}
+use Rattle.nla_frame.specs.declared.error.Family.TheVariants as family
 use Rattle.linkinfo_table.specs.Last.{StandsIn, attributes_of, last_of_type}
 use Rattle.linkinfo_table.specs.Rows.{row_alike}
 use Rattle.linkinfo_table.specs.declared.last.PlacedNla.{PlacedNla}
 use Rattle.linkinfo_table.proofs.Lasts.{all_stand, same_at}
 use Rattle.linkinfo_data.specs.Data.{data_of, family_of}
-use Rattle.linkinfo_data.specs.Equal.{option_decides}
+use Rattle.linkinfo_table.specs.Contents.{Contents, ListOf, Listed, NoList}
+use Rattle.linkinfo_table.specs.Equal.{option_decides}
 use Rattle.linkinfo_table.specs.Layers.{Families, Types}
-use Rattle.linkinfo_data.specs.Listing.{Listing}
+use Rattle.linkinfo_table.specs.Unmet as table
+use Rattle.linkinfo_table.specs.Unmet.{
+  attribute_unmet,
+  attributes_unmet,
+  counts,
+  found_unmet,
+  inner_unmet,
+  last_like,
+  list_unmet,
+  meets,
+  payload_unmet,
+}
+use Rattle.linkinfo_table.specs.declared.unmet.Unmet.{Unmet}
+use Rattle.linkinfo_data.specs.Payloads.{Payload}
 use Rattle.linkinfo_data.specs.PortData.{port_data_of, port_family_of}
-use Rattle.linkinfo_data.specs.Unmet.{counts, is_met, last_like, list_unmet, meets}
-use Rattle.linkinfo_data.specs.declared.unmet.Unmet.{Unmet}
 use Rattle.linkinfo.specs.Items.{link_row}
-use Rattle.linkinfo.specs.Met.{Item, ItemMeets, ListMeets, PayloadMeets, RoleMeets, StringMeets}
+use Rattle.linkinfo.specs.Met.{AttributeMeets, AttributesMeet, Chosen, ContentsMeet, Item}
+use Rattle.linkinfo.specs.Met.{ItemMeets, ListMeets, PayloadMeets, RoleMeets, StringMeets}
 use Rattle.linkinfo.specs.Met.{items_of, last_of, nlas_of, role_of_item, type_of, type_of_item}
 use Rattle.linkinfo.specs.Strings.{reading}
 use Rattle.linkinfo.specs.Unmet.{
   Named,
-  inner_unmet,
-  item_unmet,
+  contents_unmet,
+  data_unmet,
   link_at,
   link_unmet,
+  linked_unmet,
   no_names,
-  payload_unmet,
+  role_unmet,
+  same_kind,
+  strings_unmet,
+  unmet_answer,
+  whole_item_unmet,
 }
-use Rattle.linkinfo.specs.Unmet.{role_unmet, same_kind, strings_unmet, unmet_answer, whole_unmet}
 use Rattle.linkinfo.specs.declared.role.Role.TheVariants as role
 use Rattle.linkinfo.specs.declared.role.Role.{Role}
 use Rattle.linkinfo.proofs.MetLasts.{first_counted, in_order, item_in, items_are, last_mapped}
-use Rattle.linkinfo.proofs.MetLasts.{lasts_meet, meets_itself, none_in_list}
+use Rattle.linkinfo.proofs.MetLasts.{lasts_meet, meets_itself, members_met}
 
 both_ways : {A B C : Type 0} → A ↔ B → B ↔ C → A ↔ C
 both_ways f g = (λ a. g.0 (f.0 a), λ c. f.1 (g.1 c))
@@ -49,15 +70,61 @@ nlas_lasts : (s : List ℕ) (k : ℕ) →
     option_map (λ p. p.nla) (last_of_type k (attributes_of s)) ≡ last_of type_of k (nlas_of s)
 nlas_lasts s k = last_mapped (λ p. p.nla) (λ a. type_of a == k) None (attributes_of s)
 
-pub list_met : (name : Family) (alike : Attribute → Attribute → Bool) (have want : List ℕ) →
-    list_unmet name alike (attributes_of have) (attributes_of want) ≡ None
-    ↔ ListMeets alike have want
-list_met name alike have want =
-    both_ways (none_in_list name alike (attributes_of have) (attributes_of want))
-    (lasts_meet (λ p. p.nla) (λ p. p.nla) (λ h w. IsTrue (meets alike h w))
-    (λ h w. is_met alike h w ≡ true) (λ w e. absurd cc) (λ h w. (λ e. e, λ e. e))
+chosen_met : (b : Bool) {P Q : Type 0} (o p : Option Unmet) → (o ≡ None) ↔ P →
+    (p ≡ None) ↔ Q → ((if b then o else p) ≡ None) ↔ Chosen b P Q
+chosen_met true o p one other = one
+chosen_met false o p one other = other
+
+mapped_met : {P : Type 0} (f : Unmet → Unmet) (o : Option Unmet) → (o ≡ None) ↔ P →
+    (option_map f o ≡ None) ↔ P
+mapped_met f None one = (λ e. one.0 refl, λ m. refl)
+mapped_met f (Some u) one = (λ e. absurd cc, λ m. absurd (let e = one.1 m in cc))
+
+-- the attributes of a list, given when one attribute of one type meets another one
+attributes_met : (l : Listed) (unmet : PlacedNla → PlacedNla → Option Unmet)
+    (Meets : Attribute → Attribute → Type 0) →
+    ((h w : PlacedNla) → (unmet h w ≡ None) ↔ Meets h.nla w.nla) → (have want : List ℕ) →
+    (attributes_unmet l unmet (attributes_of have) (attributes_of want) ≡ None)
+    ↔ AttributesMeet l Meets (nlas_of have) (nlas_of want)
+attributes_met l unmet Meets one have want =
+    chosen_met l.is_set _ _
+    (members_met l.family l.alike (attributes_of have) (attributes_of want))
+    (both_ways
+    (first_counted (counts (attributes_of want))
+    (λ p. found_unmet l.family unmet (last_like (attributes_of have) p) p) (attributes_of want))
+    (lasts_meet (λ p. p.nla) (λ p. p.nla) Meets
+    (λ h w. found_unmet l.family unmet h w ≡ None) (λ w e. absurd cc) one
     (attributes_of have) (attributes_of want) (StandsIn want) (same_at want) (all_stand want)
-    type_of (nlas_of have) (nlas_of want) (nlas_lasts have) (nlas_lasts want))
+    type_of (nlas_of have) (nlas_of want) (nlas_lasts have) (nlas_lasts want)))
+
+if_met : (name : Family) (met : Bool) (h w : PlacedNla) →
+    (table.item_unmet name met h w ≡ None) ↔ IsTrue met
+if_met name true h w = (λ e. refl, λ m. refl)
+if_met name false h w = (λ e. absurd cc, λ m. absurd cc)
+
+-- an attribute, by what it contains
+pub payload_met : (c : Contents) (name : Family) (met : Bool) (h w : PlacedNla) →
+    (payload_unmet c name met h w ≡ None) ↔ PayloadMeets c met h.nla w.nla
+payload_met NoList name met h w = if_met name met h w
+payload_met (ListOf l inside) name met h w =
+    chosen_met l.is_whole _ _ (if_met name met h w)
+    (mapped_met (inner_unmet w h) _
+    (attributes_met l _ _
+    (λ x y. payload_met (inside (type_of y.nla)) l.family (meets l.alike x.nla y.nla) x y)
+    h.nla.value w.nla.value))
+
+pub list_met : (l : Listed) (inside : ℕ → Contents) (have want : List ℕ) →
+    (list_unmet l inside have want ≡ None) ↔ ListMeets l inside have want
+list_met l inside have want =
+    attributes_met l (attribute_unmet inside l.family l.alike) (AttributeMeets inside l.alike)
+    (λ x y. payload_met (inside (type_of y.nla)) l.family (meets l.alike x.nla y.nla) x y) have want
+
+-- data
+contents_met : (c : Contents) (met : Bool) (h w : PlacedNla) →
+    (contents_unmet c met h w ≡ None) ↔ ContentsMeet c met h.nla w.nla
+contents_met NoList met h w = if_met family.LinkInfo met h w
+contents_met (ListOf l inside) met h w =
+    mapped_met (inner_unmet w h) _ (list_met l inside h.nla.value w.nla.value)
 
 -- ---- the list
 
@@ -67,24 +134,8 @@ if_both true o u = (λ e. (refl, e), λ h. h.1)
 if_both false o u = (λ e. absurd cc, λ h. absurd (let e = h.0 in cc))
 
 item_met : (alike : Attribute → Attribute → Bool) (h w : PlacedNla) →
-    item_unmet alike h w ≡ None ↔ IsTrue (meets alike h.nla w.nla)
-item_met alike h w =
-    let one = if_both (meets alike h.nla w.nla) None _ in
-    (λ e. (one.0 e).0, λ m. one.1 (m, refl))
-
-payload_met : (o : Option Listing) (alike : List ℕ → List ℕ → Bool) (h w : PlacedNla) →
-    payload_unmet o alike h w ≡ None ↔ PayloadMeets o alike h.nla w.nla
-payload_met None alike h w = item_met (λ a b. alike a.value b.value) h w
-payload_met (Some listing) alike h w =
-    both_ways
-    (mapped _
-    (list_unmet listing.family listing.alike (attributes_of h.nla.value)
-    (attributes_of w.nla.value)))
-    (list_met listing.family listing.alike h.nla.value w.nla.value)
-  where
-    mapped : (f : Unmet → Unmet) (o : Option Unmet) → option_map f o ≡ None ↔ o ≡ None
-    mapped f None = (λ e. e, λ e. e)
-    mapped f (Some u) = (λ e. absurd cc, λ e. absurd cc)
+    whole_item_unmet alike h w ≡ None ↔ IsTrue (meets alike h.nla w.nla)
+item_met alike h w = if_met family.LinkInfo (meets alike h.nla w.nla) h w
 
 -- the attribute at an offset, with the names before it
 abbrev pub item_at : List ℕ → PlacedNla → Item
@@ -105,10 +156,10 @@ module _ {L : Types} (layer : Families L) where
       role_unmet layer r h w ≡ None ↔ RoleMeets layer r h.nla w.nla
   role_met (role.Data tag) h w =
       let payload = data_of layer (family_of tag) in
-      payload_met payload.listing payload.alike h w
+      contents_met payload.contents (meets (λ a b. payload.alike a.value b.value) h.nla w.nla) h w
   role_met (role.PortData tag) h w =
       let payload = port_data_of layer (port_family_of tag) in
-      payload_met payload.listing payload.alike h w
+      contents_met payload.contents (meets (λ a b. payload.alike a.value b.value) h.nla w.nla) h w
   role_met r h w = item_met (row_alike (link_row layer r)) h w
 
   link_met : (have want : List ℕ) (h w : PlacedNla) →
@@ -129,11 +180,10 @@ module _ {L : Types} (layer : Families L) where
   string_met have want =
       both_ways
       (first_counted (counts (attributes_of want))
-      (λ p. link_unmet layer (option_map (link_at have) (last_like (attributes_of have) p))
-      (link_at want p))
+      (λ p. linked_unmet layer have want (last_like (attributes_of have) p) p)
       (attributes_of want))
       (lasts_meet (item_at have) (item_at want) (ItemMeets layer)
-      (λ h w. link_unmet layer (option_map (link_at have) h) (link_at want w) ≡ None)
+      (λ h w. linked_unmet layer have want h w ≡ None)
       (λ w e. absurd cc) (link_met have want)
       (attributes_of have) (attributes_of want) (StandsIn want) (same_at want) (all_stand want)
       type_of_item (items_of have) (items_of want) (items_lasts have) (items_lasts want))
@@ -152,16 +202,72 @@ pub meets_equal : (alike : Attribute → Attribute → Bool) (h w : Attribute) �
 meets_equal alike h w e =
     or_first (bytes_eq h.value w.value) (alike h w) ((bytes_eq-Decides h.value w.value).1 e)
 
-list_itself : (alike : Attribute → Attribute → Bool) (s : List ℕ) → ListMeets alike s s
-list_itself alike s =
-    meets_itself type_of (λ h w. IsTrue (meets alike h w)) (λ a. meets_equal alike a a refl)
+-- a test that each element passes with itself
+any_itself : (like : Attribute → Attribute → Bool) → ((a : Attribute) → like a a ≡ true) →
+    (list : List Attribute) →
+    AllByRecursion (λ w. IsTrue (list_any (λ h. like h w) list)) list
+any_itself like each list = go list (λ w h. h)
+  where
+    go : (rest : List Attribute) →
+        ((w : Attribute) → IsTrue (list_any (λ h. like h w) rest) →
+        IsTrue (list_any (λ h. like h w) list)) →
+        AllByRecursion (λ w. IsTrue (list_any (λ h. like h w) list)) rest
+    go [] f = tt
+    go (a ∷ more) f = (
+      f a (or_first (like a a) _ (each a)),
+      go more (λ w h. f w (or_second (like a w) _ h)),
+    )
+
+pub chosen : (b : Bool) {P Q : Type 0} → P → Q → Chosen b P Q
+chosen true p q = p
+chosen false p q = q
+
+-- the attributes of a list meet themselves if each attribute meets itself
+attributes_itself : (l : Listed) (Meets : Attribute → Attribute → Type 0) →
+    ((a : Attribute) → Meets a a) → (list : List Attribute) → AttributesMeet l Meets list list
+attributes_itself l Meets each list =
+    chosen l.is_set
+    (any_itself (λ h w. (type_of h == type_of w) && meets l.alike h w)
+    (λ a.
+    and_from (type_of a == type_of a) (meets l.alike a a) (eq-eqb (type_of a) (type_of a) refl)
+    (meets_equal l.alike a a refl)) list)
+    (meets_itself type_of Meets each list)
+
+payload_itself : (c : Contents) (met : Bool) (a : Attribute) → IsTrue met → PayloadMeets c met a a
+payload_itself NoList met a e = e
+payload_itself (ListOf l inside) met a e =
+    chosen l.is_whole e
+    (attributes_itself l
+    (λ h w. PayloadMeets (inside (type_of w)) (meets l.alike h w) h w)
+    (λ x. payload_itself (inside (type_of x)) (meets l.alike x x) x (meets_equal l.alike x x refl))
+    (nlas_of a.value))
+
+list_itself : (l : Listed) (inside : ℕ → Contents) (s : List ℕ) → ListMeets l inside s s
+list_itself l inside s =
+    attributes_itself l (AttributeMeets inside l.alike)
+    (λ x. payload_itself (inside (type_of x)) (meets l.alike x x) x (meets_equal l.alike x x refl))
     (nlas_of s)
 
-payload_itself : (o : Option Listing) (alike : List ℕ → List ℕ → Bool) (h w : Attribute) →
-    h.value ≡ w.value → PayloadMeets o alike h w
-payload_itself None alike h w e = meets_equal (λ a b. alike a.value b.value) h w e
-payload_itself (Some listing) alike h w e =
-    subst (ListMeets listing.alike h.value) e (list_itself listing.alike h.value)
+-- what is met depends on the payloads alone
+by_value : (c : Contents) (met : Bool) (h w v : Attribute) → w.value ≡ v.value →
+    PayloadMeets c met h w → PayloadMeets c met h v
+by_value NoList met h w v e m = m
+by_value (ListOf l inside) met h w v e m =
+    subst (λ (s : List ℕ).
+    Chosen l.is_whole (IsTrue met)
+    (AttributesMeet l (λ x y. PayloadMeets (inside (type_of y)) (meets l.alike x y) x y)
+    (nlas_of h.value) (nlas_of s))) e m
+
+-- equal payloads
+pub payload_equal : (c : Contents) (met : Bool) (h w : Attribute) → IsTrue met →
+    h.value ≡ w.value → PayloadMeets c met h w
+payload_equal c met h w is e = by_value c met h h w e (payload_itself c met h is)
+
+contents_equal : (c : Contents) (met : Bool) (h w : Attribute) → IsTrue met →
+    h.value ≡ w.value → ContentsMeet c met h w
+contents_equal NoList met h w is e = is
+contents_equal (ListOf l inside) met h w is e =
+    subst (ListMeets l inside h.value) e (list_itself l inside h.value)
 
 pub same_names : (r : Role) (m n : Named) → m.kind ≡ n.kind → m.port ≡ n.port →
     IsTrue (same_kind r m n)
@@ -175,10 +281,12 @@ module _ {L : Types} (layer : Families L) where
   pub role_equal : (r : Role) (h w : Attribute) → h.value ≡ w.value → RoleMeets layer r h w
   role_equal (role.Data tag) h w e =
       let payload = data_of layer (family_of tag) in
-      payload_itself payload.listing payload.alike h w e
+      let alike = λ (a b : Attribute). payload.alike a.value b.value in
+      contents_equal payload.contents (meets alike h w) h w (meets_equal alike h w e) e
   role_equal (role.PortData tag) h w e =
       let payload = port_data_of layer (port_family_of tag) in
-      payload_itself payload.listing payload.alike h w e
+      let alike = λ (a b : Attribute). payload.alike a.value b.value in
+      contents_equal payload.contents (meets alike h w) h w (meets_equal alike h w e) e
   role_equal r h w e = meets_equal (row_alike (link_row layer r)) h w e
 
   item_itself : (item : Item) → ItemMeets layer item item
@@ -194,27 +302,18 @@ module _ {L : Types} (layer : Families L) where
       (string_met layer s s).1
       (meets_itself type_of_item (ItemMeets layer) item_itself (items_of s))
 
-pub data_itself : (name : Family) (alike : Attribute → Attribute → Bool) (s : List ℕ) →
-    list_unmet name alike (attributes_of s) (attributes_of s) ≡ None
-data_itself name alike s = (list_met name alike s s).1 (list_itself alike s)
+pub data_itself : (l : Listed) (inside : ℕ → Contents) (s : List ℕ) →
+    list_unmet l inside s s ≡ None
+data_itself l inside s = (list_met l inside s s).1 (list_itself l inside s)
 
 -- equal data leaves nothing unmet
-pub equal_data : (o : Option Listing) (alike : List ℕ → List ℕ → Bool) (h w : PlacedNla) →
-    h.nla.value ≡ w.nla.value → payload_unmet o alike h w ≡ None
-equal_data None alike h w e =
-    met_as_whole (meets_equal (λ a b. alike a.value b.value) h.nla w.nla e)
-  where
-    met_as_whole : {b : Bool} → IsTrue b →
-        (if b then None else Some (whole_unmet w (Some h))) ≡ None
-    met_as_whole {b = true} is = refl
-    met_as_whole {b = false} is = absurd cc
-equal_data (Some listing) alike h w e =
-    let itself = data_itself listing.family listing.alike h.nla.value in
-    let same =
-    subst (λ (v : List ℕ).
-    list_unmet listing.family listing.alike (attributes_of h.nla.value) (attributes_of v) ≡ None) e
-    itself in
-    ap (λ (o : Option Unmet). option_map (inner_unmet w h) o) same
+pub equal_data : {X : Type 0} (payload : Payload X) (h w : PlacedNla) →
+    h.nla.value ≡ w.nla.value → data_unmet payload h w ≡ None
+equal_data payload h w e =
+    let alike = λ (a b : Attribute). payload.alike a.value b.value in
+    let met = meets alike h.nla w.nla in
+    (contents_met payload.contents met h w).1
+    (contents_equal payload.contents met h.nla w.nla (meets_equal alike h.nla w.nla e) e)
 
 -- the result for equal strings, the first of which is accepted
 module _ {L : Types} (layer : Families L) where

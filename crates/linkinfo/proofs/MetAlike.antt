@@ -1,11 +1,11 @@
 -- Equivalent lists meet one another.
 use Rattle.std.specs.Prelude.{◌≡◌, ℕ, ◌+◌, ◌==◌, ◌&&◌, Bool, true, false, if◌then◌else◌, IsOk}
 use Rattle.std.specs.Prelude.{IsTrue, List, [], ◌∷◌, Option, None, Some, Result, Ok, Err, map}
-use Rattle.std.specs.Prelude.{length, refl, IfSome}
-use Rattle.std.specs.List.{AllZip}
+use Rattle.std.specs.Prelude.{is_ok, length, refl}
+use Rattle.std.specs.List.{AllZip, list_any}
 use Rattle.std.specs.Str.{bytes_eq}
 use Rattle.std.proofs.Common.{sym, ap, subst, ◌∙◌}
-use Rattle.std.proofs.lemmas.Bool.{and_parts, eqb-true}
+use Rattle.std.proofs.lemmas.Bool.{and_from, and_parts, eq-eqb, eqb-true}
 use Rattle.std.proofs.lemmas.Slice.Eq.{bytes_eq-Decides}
 use Rattle.nla_frame.specs.Attribute.{Attribute, IsBytes, aligned, masked}
 use Rattle.nla_frame.specs.Payload.{stripped}
@@ -15,13 +15,25 @@ use Rattle.linkinfo_table.specs.Last.{attributes_of, placed_from}
 use Rattle.linkinfo_table.specs.Lists.{◌>>=◌}
 use Rattle.linkinfo_table.specs.Rows.{alike_in, row_alike}
 use Rattle.linkinfo_data.specs.Data.{data_of, family_of}
-use Rattle.linkinfo_table.specs.Layers.{Families, IsLayer, Types}
+use Rattle.linkinfo_table.specs.Layers.{Families, Types}
 use Rattle.linkinfo_data.specs.Lawful.{AreLawful}
-use Rattle.linkinfo_data.specs.Listing.{Listing}
 use Rattle.linkinfo_data.specs.PortData.{port_data_of, port_family_of}
-use Rattle.linkinfo_data.specs.Unmet.{meets}
+use Rattle.linkinfo_table.specs.Contents.{
+  Contents,
+  HasOneType,
+  IsContent,
+  IsPayloadContent,
+  ListOf,
+  Listed,
+  NoList,
+}
+use Rattle.linkinfo_table.specs.Lists.{alike_pairs}
+use Rattle.linkinfo_table.specs.Unmet.{meets}
+use Rattle.linkinfo_data.specs.Payloads.{IsLawful, Payload}
 use Rattle.linkinfo.specs.Items.{link_alike, link_meaning, link_row}
-use Rattle.linkinfo.specs.Met.{Item, ItemMeets, PayloadMeets, RoleMeets, items_of, items_under}
+use Rattle.linkinfo.specs.Met.{AttributeMeets, ContentsMeet, DataMeets, Item, ItemMeets}
+use Rattle.linkinfo.specs.Met.{ListMeets, MembersMeet, PayloadMeets, RoleMeets}
+use Rattle.linkinfo.specs.Met.{items_of, items_under}
 use Rattle.linkinfo.specs.Met.{nlas_of, role_of_item, type_of, type_of_item}
 use Rattle.linkinfo.specs.Roles.{role_of}
 use Rattle.linkinfo.specs.Strings.{alike_from, alike_strings, next_kinds, reading, values_from}
@@ -31,22 +43,92 @@ use Rattle.linkinfo.specs.declared.role.CurrentKinds.{CurrentKinds}
 use Rattle.linkinfo.specs.declared.role.Role.TheVariants as role
 use Rattle.linkinfo.specs.declared.role.Role.{Role}
 use Rattle.linkinfo.proofs.Items.{role_alike_after}
-use Rattle.linkinfo.proofs.Meeting.{or_second, same_names, string_met}
+use Rattle.linkinfo.proofs.Meeting.{chosen, or_first, or_second, same_names, string_met}
 use Rattle.linkinfo.proofs.MetLasts.{pairs_meet, same_named}
-use Rattle.linkinfo.proofs.PairedData.{ArePair, data_paired, port_paired}
 use Rattle.linkinfo.proofs.Unmets.{under_next}
 use Rattle.linkinfo.proofs.Whole.{strings_alike}
 
-payload_alike : (o : Option Listing) (alike : List ℕ → List ℕ → Bool) (a b : Attribute) →
-    IfSome o (λ listing.
-    (s t : List ℕ) → alike s t ≡ true → AllZip (ArePair listing.alike) (nlas_of s) (nlas_of t)) →
-    alike a.value b.value ≡ true → PayloadMeets o alike a b
-payload_alike None alike a b paired e =
-    or_second (bytes_eq a.value b.value) (alike a.value b.value) e
-payload_alike (Some listing) alike a b paired e =
-    pairs_meet type_of (ArePair listing.alike) (λ h w. IsTrue (meets listing.alike h w))
-    (λ x y r. r.0) (λ x y r. or_second (bytes_eq x.value y.value) (listing.alike x y) r.1)
-    (nlas_of a.value) (nlas_of b.value) (paired a.value b.value e)
+-- ---- equivalent lists are equivalent in pairs
+
+abbrev ArePair : (Attribute → Attribute → Bool) → Attribute → Attribute → Type 0
+ArePair alike a b = (type_of a ≡ type_of b) × (alike a b ≡ true)
+
+pairs_are : (alike : Attribute → Attribute → Bool) → HasOneType alike →
+    (ps qs : List (Result Attribute ℕ)) (m n : ℕ) → alike_pairs alike ps qs ≡ true →
+    AllZip (ArePair alike) (map (λ p. p.nla) (placed_from m ps))
+    (map (λ p. p.nla) (placed_from n qs))
+pairs_are alike typed [] [] m n e = tt
+pairs_are alike typed [] (y ∷ ys) m n e = absurd cc
+pairs_are alike typed ((Ok a) ∷ xs) [] m n e = absurd cc
+pairs_are alike typed ((Err k) ∷ xs) [] m n e = absurd cc
+pairs_are alike typed ((Ok a) ∷ xs) ((Ok b) ∷ ys) m n e =
+    let h = and_parts (alike a b) (alike_pairs alike xs ys) e in
+    ((typed a b h.0, h.0), pairs_are alike typed xs ys _ _ h.1)
+pairs_are alike typed ((Ok a) ∷ xs) ((Err k) ∷ ys) m n e = absurd cc
+pairs_are alike typed ((Err k) ∷ xs) (y ∷ ys) m n e = absurd cc
+
+-- each attribute of the second list has one like it in the first, at its place
+zip_members : (alike : Attribute → Attribute → Bool) (all have want : List Attribute) →
+    ((test : Attribute → Bool) → list_any test have ≡ true → list_any test all ≡ true) →
+    AllZip (ArePair alike) have want → MembersMeet alike all want
+zip_members alike all [] [] f each = tt
+zip_members alike all [] (w ∷ more) f each = absurd each
+zip_members alike all (h ∷ rest) [] f each = tt
+zip_members alike all (h ∷ rest) (w ∷ more) f each =
+    let here =
+    and_from (type_of h == type_of w) (meets alike h w)
+    (eq-eqb (type_of h) (type_of w) each.0.0)
+    (or_second (bytes_eq h.value w.value) (alike h w) each.0.1) in (
+      f (λ x. (type_of x == type_of w) && meets alike x w) (or_first _ _ here),
+      zip_members alike all rest more (λ test e. f test (or_second (test h) _ e)) each.1,
+    )
+
+-- equivalent lists meet, given that equivalent attributes of one type do
+alike_list : (l : Listed) (inside : ℕ → Contents) → HasOneType l.alike →
+    ((x y : Attribute) → ArePair l.alike x y → AttributeMeets inside l.alike x y) →
+    (p q : List ℕ) → alike_pairs l.alike (nla_items p) (nla_items q) ≡ true →
+    ListMeets l inside p q
+unfolding attributes_of
+alike_list l inside one_type each p q e =
+    let pairs : AllZip (ArePair l.alike) (nlas_of p) (nlas_of q) =
+    pairs_are l.alike one_type (nla_items p) (nla_items q) 0 0 e in
+    chosen l.is_set
+    (zip_members l.alike (nlas_of p) (nlas_of p) (nlas_of q) (λ test t. t) pairs)
+    (pairs_meet type_of (ArePair l.alike) (AttributeMeets inside l.alike) (λ x y r. r.0) each
+    (nlas_of p) (nlas_of q) pairs)
+
+alike_contents : (c : Contents) (n : ℕ) (accepts : Attribute → Bool)
+    (alike : Attribute → Attribute → Bool) (a b : Attribute) → IsContent c n accepts alike →
+    type_of a ≡ n → alike a b ≡ true → PayloadMeets c (meets alike a b) a b
+alike_contents NoList n accepts alike a b law at e =
+    or_second (bytes_eq a.value b.value) (alike a b) e
+alike_contents (ListOf l inside) n accepts alike a b law at e =
+    let pairs =
+    (and_parts (masked b.kind == masked a.kind)
+    (alike_pairs l.alike (nla_items a.value) (nla_items b.value)) (sym (law.1 a b at) ∙ e)).1 in
+    chosen l.is_whole (or_second (bytes_eq a.value b.value) (alike a b) e)
+    (alike_list l inside law.2
+    (λ x y r.
+    alike_contents (inside (type_of y)) (type_of y) l.accepts l.alike x y (law.3 (type_of y)) r.0
+    r.1)
+    a.value b.value pairs)
+
+payload_alike : {X : Type 0} (payload : Payload X) (canon : X → List ℕ) →
+    IsLawful payload canon → (a b : Attribute) → payload.alike a.value b.value ≡ true →
+    DataMeets payload a b
+payload_alike payload canon law a b e = by_contents payload.contents law.contained
+  where
+    by_contents : (c : Contents) →
+        IsPayloadContent c (λ p. is_ok (payload.means p)) payload.alike →
+        ContentsMeet c (meets (λ x y. payload.alike x.value y.value) a b) a b
+    by_contents NoList law =
+        or_second (bytes_eq a.value b.value) (payload.alike a.value b.value) e
+    by_contents (ListOf l inside) law =
+        alike_list l inside law.2
+        (λ x y r.
+        alike_contents (inside (type_of y)) (type_of y) l.accepts l.alike x y (law.3 (type_of y))
+        r.0 r.1)
+        a.value b.value (sym (law.1 a.value b.value) ∙ e)
 
 if_same : {A : Type 0} (c d : Bool) (p q o : A) → c ≡ d → (c ≡ true → p ≡ q) →
     (if c then p else o) ≡ (if d then q else o)
@@ -55,16 +137,16 @@ if_same true false p q o e f = absurd cc
 if_same false true p q o e f = absurd cc
 if_same false false p q o e f = refl
 
-module _ {L : Types} (layer : Families L) (is : IsLayer layer) where
+module _ {L : Types} (layer : Families L) (law : AreLawful layer) where
   role_alike : (r : Role) (a b : Attribute) → row_alike (link_row layer r) a b ≡ true →
       RoleMeets layer r a b
   role_alike (role.Data tag) a b e =
       let payload = data_of layer (family_of tag) in
-      payload_alike payload.listing payload.alike a b (data_paired layer is (family_of tag))
+      payload_alike payload _ (law.link (family_of tag)) a b
       (and_parts (masked b.kind == masked a.kind) (payload.alike a.value b.value) e).1
   role_alike (role.PortData tag) a b e =
       let payload = port_data_of layer (port_family_of tag) in
-      payload_alike payload.listing payload.alike a b (port_paired layer is (port_family_of tag))
+      payload_alike payload _ (law.port (port_family_of tag)) a b
       (and_parts (masked b.kind == masked a.kind) (payload.alike a.value b.value) e).1
   role_alike r a b e =
       or_second (bytes_eq a.value b.value) (row_alike (link_row layer r) a b) e

@@ -1,5 +1,5 @@
 -- What is met stays met where attributes of other types are added inside data.
-use Rattle.std.specs.Prelude.{◌≡◌, ◌⊎◌, ℕ, ◌==◌, Bool, IsTrue, is_some, List, Option, None, Some}
+use Rattle.std.specs.Prelude.{◌≡◌, ◌⊎◌, ℕ, ◌==◌, Bool, IsTrue, List, Option, None, Some}
 use Rattle.std.specs.Prelude.{IfSome}
 use Rattle.std.specs.List.{AllByRecursion}
 use Rattle.std.proofs.Common.{ap, inl, inr, subst, sym, ◌∙◌}
@@ -7,40 +7,38 @@ use Rattle.nla_frame.specs.Attribute.{Attribute}
 use Rattle.linkinfo_table.proofs.Lasts.{last_holds}
 use Rattle.linkinfo_data.specs.Data.{data_of, family_of}
 use Rattle.linkinfo_table.specs.Layers.{Families, Types}
-use Rattle.linkinfo_data.specs.Listing.{Listing}
+use Rattle.linkinfo_table.specs.Contents.{Contents, ListOf, NoList}
 use Rattle.linkinfo_data.specs.PortData.{port_data_of, port_family_of}
-use Rattle.linkinfo.specs.Met.{DifferInside, HasGained, HaveSameLasts, IsMet, Item, ItemMeets}
-use Rattle.linkinfo.specs.Met.{PayloadMeets, RoleMeets, StaysFor, is_list, items_of, last_of}
-use Rattle.linkinfo.specs.Met.{role_of_item, type_of_item}
+use Rattle.linkinfo.specs.Met.{AttributeMeets, ContentsMeet, ContentsStay, DifferInside, HasGained}
+use Rattle.linkinfo.specs.Met.{IsMet, Item, ItemMeets, RoleMeets, StaysFor, contents_in, items_of}
+use Rattle.linkinfo.specs.Met.{last_of, role_of_item, type_of_item}
 use Rattle.linkinfo.specs.Unmet.{Named, same_kind, strings_unmet}
 use Rattle.linkinfo.specs.declared.role.Role.TheVariants as role
 use Rattle.linkinfo.specs.declared.role.Role.{Role}
 use Rattle.linkinfo.proofs.Meeting.{string_met}
 use Rattle.linkinfo.proofs.MetLasts.{AreBoth, last_pair, last_typed}
-use Rattle.linkinfo.proofs.MetStays.{lists_stay}
+use Rattle.linkinfo.proofs.MetStays.{attributes_stay}
 
--- data that is a list
-list_stays : (o : Option Listing) (alike : List ℕ → List ℕ → Bool) (h m w : Attribute) →
-    IsTrue (is_some o) → HaveSameLasts w.value h.value m.value → PayloadMeets o alike h w →
-    PayloadMeets o alike m w
-list_stays None alike h m w list same met = absurd cc
-list_stays (Some listing) alike h m w list same met =
-    lists_stay listing.alike h.value m.value w.value same met
+-- data
+contents_stay : (c : Contents) (old new : Bool) (h m w : Attribute) →
+    ContentsStay c w.value h.value m.value → ContentsMeet c old h w → ContentsMeet c new m w
+contents_stay NoList old new h m w stay met = absurd stay
+contents_stay (ListOf l inside) old new h m w stay met =
+    attributes_stay l (AttributeMeets inside l.alike) h.value m.value w.value stay met
 
 module _ {L : Types} (layer : Families L) where
-  payload_stays : (r : Role) (h m w : Attribute) → IsTrue (is_list layer r) →
-      HaveSameLasts w.value h.value m.value → RoleMeets layer r h w → RoleMeets layer r m w
-  payload_stays (role.Data tag) h m w list same met =
-      let payload = data_of layer (family_of tag) in
-      list_stays payload.listing payload.alike h m w list same met
-  payload_stays (role.PortData tag) h m w list same met =
-      let payload = port_data_of layer (port_family_of tag) in
-      list_stays payload.listing payload.alike h m w list same met
-  payload_stays role.Kind h m w list same met = absurd cc
-  payload_stays role.Xstats h m w list same met = absurd cc
-  payload_stays role.PortKind h m w list same met = absurd cc
-  payload_stays role.Misplaced h m w list same met = absurd cc
-  payload_stays role.Unknown h m w list same met = absurd cc
+  payload_stays : (r : Role) (h m w : Attribute) →
+      ContentsStay (contents_in layer r) w.value h.value m.value → RoleMeets layer r h w →
+      RoleMeets layer r m w
+  payload_stays (role.Data tag) h m w stay met =
+      contents_stay (data_of layer (family_of tag)).contents _ _ h m w stay met
+  payload_stays (role.PortData tag) h m w stay met =
+      contents_stay (port_data_of layer (port_family_of tag)).contents _ _ h m w stay met
+  payload_stays role.Kind h m w stay met = absurd stay
+  payload_stays role.Xstats h m w stay met = absurd stay
+  payload_stays role.PortKind h m w stay met = absurd stay
+  payload_stays role.Misplaced h m w stay met = absurd stay
+  payload_stays role.Unknown h m w stay met = absurd stay
 
   -- an attribute of the list
   item_stays : (h m w : Item) → h.named ≡ m.named → type_of_item w ≡ type_of_item h →
@@ -53,8 +51,7 @@ module _ {L : Types} (layer : Families L) where
               subst (λ (a : Attribute). RoleMeets layer (role_of_item w) a w.nla) same
               met.payload
           | inr stays ↦
-              let both = stays typed in
-              payload_stays (role_of_item w) h.nla m.nla w.nla both.0 both.1 met.payload
+              payload_stays (role_of_item w) h.nla m.nla w.nla (stays typed) met.payload
         ];
   }
 

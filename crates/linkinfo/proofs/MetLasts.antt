@@ -1,8 +1,8 @@
 -- The last elements of lists, and which attributes of a list count.
 use Rattle.std.specs.Prelude.{◌≡◌, ◌↔◌, ℕ, ◌==◌, ◌+◌, ◌≤◌, ◌&&◌, nat_lt, Bool, true, false, not}
 use Rattle.std.specs.Prelude.{if◌then◌else◌, List, [], ◌∷◌, Option, None, Some, Result, Ok, Err}
-use Rattle.std.specs.Prelude.{map, refl, length, IfSome}
-use Rattle.std.specs.List.{AllByRecursion, AllZip, filter, find, last_or}
+use Rattle.std.specs.Prelude.{◌||◌, map, refl, length, IfSome, IsTrue}
+use Rattle.std.specs.List.{AllByRecursion, AllZip, filter, find, last_or, list_any}
 use Rattle.std.specs.Option.{option_eq, option_map}
 use Rattle.std.proofs.Common.{arith, sym, ap, subst, ◌∙◌, inl, inr}
 use Rattle.std.proofs.lemmas.Bool.{cases_Bool, eq-eqb, eqb-true}
@@ -12,10 +12,18 @@ use Rattle.nla_frame.specs.declared.error.Family.{Family}
 use Rattle.linkinfo_table.specs.Last.{has_type, last_of_type, offset_of, placed_from}
 use Rattle.linkinfo_table.specs.declared.last.PlacedNla.{PlacedNla}
 use Rattle.linkinfo_table.proofs.Lasts.{last_holds, last_passes}
-use Rattle.linkinfo_data.specs.Unmet.{counts, is_met, last_like, list_unmet, misses, unmet_at}
-use Rattle.linkinfo_data.specs.declared.unmet.Unmet.{Unmet}
-use Rattle.linkinfo.specs.Met.{IsMet, Item, LastsMeet, items_under, last_of}
-use Rattle.linkinfo.specs.Unmet.{Named, first_of, names_after, names_before}
+use Rattle.linkinfo_table.specs.Unmet.{
+  counts,
+  first_of,
+  is_like,
+  last_like,
+  meets,
+  members_unmet,
+  whole_unmet,
+}
+use Rattle.linkinfo_table.specs.declared.unmet.Unmet.{Unmet}
+use Rattle.linkinfo.specs.Met.{IsMet, Item, LastsMeet, MembersMeet, items_under, last_of, type_of}
+use Rattle.linkinfo.specs.Unmet.{Named, names_after, names_before}
 use Rattle.linkinfo.proofs.Unmets.{first_here, first_later}
 
 -- ---- the last element
@@ -286,26 +294,46 @@ none_mapped : {A B : Type 0} (f : A → B) (o : Option A) → option_map f o ≡
 none_mapped f None e = refl
 none_mapped f (Some x) e = absurd cc
 
-missed_none : (c m : Bool) → (c && not m) ≡ false ↔ (c ≡ true → m ≡ true)
-missed_none true true = (λ e c. refl, λ e. refl)
-missed_none true false = (λ e c. absurd cc, λ e. absurd (let h = e refl in cc))
-missed_none false m = (λ e c. absurd cc, λ e. refl)
+not_false : (b : Bool) → not b ≡ false → b ≡ true
+not_false true e = refl
+not_false false e = absurd cc
 
-pub none_in_list : (name : Family) (alike : Attribute → Attribute → Bool)
+-- a set is met if and only if each of its attributes has one like it
+any_mapped : (test : Attribute → Bool) (list : List PlacedNla) →
+    list_any (λ p. test p.nla) list ≡ list_any test (map (λ p. p.nla) list)
+any_mapped test [] = refl
+any_mapped test (p ∷ more) = ap (λ (b : Bool). test p.nla || b) (any_mapped test more)
+
+pub members_met : (name : Family) (alike : Attribute → Attribute → Bool)
     (have want : List PlacedNla) →
-    list_unmet name alike have want ≡ None
-    ↔ AllByRecursion (λ p. counts want p ≡ true → is_met alike (last_like have p) p ≡ true) want
-none_in_list name alike have want =
-    let test = misses alike have want in
-    let met = λ (p : PlacedNla). is_met alike (last_like have p) p in
-    let one = λ (p : PlacedNla). missed_none (counts want p) (met p) in (
-      λ e.
-          all_weaker (λ p. test p ≡ false) _ (λ p. (one p).0) want
-          (not_found test want (none_mapped _ _ e)),
-      λ all.
-          ap (option_map (unmet_at name have))
-          (all_fail test want (all_weaker _ (λ p. test p ≡ false) (λ p. (one p).1) want all)),
-    )
+    members_unmet name alike have want ≡ None
+    ↔ MembersMeet alike (map (λ p. p.nla) have) (map (λ p. p.nla) want)
+members_met name alike have want = (
+  λ e. each want (not_found (λ w. not (list_any (is_like alike w) have)) want (none_mapped _ _ e)),
+  λ all.
+      ap (option_map (λ w. whole_unmet name w None))
+      (all_fail (λ w. not (list_any (is_like alike w) have)) want (all_met want all)),
+)
+  where
+    like : Attribute → Attribute → Bool
+    like w h = (type_of h == type_of w) && meets alike h w
+
+    is_any : (w : PlacedNla) → (not (list_any (is_like alike w) have)) ≡ false →
+        IsTrue (list_any (like w.nla) (map (λ p. p.nla) have))
+    is_any w e = sym (any_mapped (like w.nla) have) ∙ not_false (list_any (is_like alike w) have) e
+
+    each : (list : List PlacedNla) →
+        AllByRecursion (λ w. (not (list_any (is_like alike w) have)) ≡ false) list →
+        MembersMeet alike (map (λ p. p.nla) have) (map (λ p. p.nla) list)
+    each [] all = tt
+    each (w ∷ more) all = (is_any w all.0, each more all.1)
+
+    all_met : (list : List PlacedNla) →
+        MembersMeet alike (map (λ p. p.nla) have) (map (λ p. p.nla) list) →
+        AllByRecursion (λ w. (not (list_any (is_like alike w) have)) ≡ false) list
+    all_met [] all = tt
+    all_met (w ∷ more) all =
+        (ap not (any_mapped (like w.nla) have ∙ all.0), all_met more all.1)
 
 if_counted : (c : Bool) (o : Option Unmet) → (if c then o else None) ≡ None ↔ (c ≡ true → o ≡ None)
 if_counted true o = (λ e c. e, λ e. e refl)

@@ -12,7 +12,7 @@ use Rattle.linkinfo_numbers.specs.Kind.{tag_of_name}
 use Rattle.linkinfo_numbers.specs.PortKind.{port_tag_of_name}
 use Rattle.linkinfo_table.specs.Last.{attributes_of}
 use Rattle.linkinfo_table.specs.declared.last.PlacedNla.{PlacedNla}
-use Rattle.linkinfo_data.specs.Equal.{option_decides}
+use Rattle.linkinfo_table.specs.Equal.{option_decides}
 use Rattle.linkinfo_table.specs.Layers.{Families, Types}
 use Rattle.linkinfo.specs.Met.{Item, items_of, role_of_item}
 use Rattle.linkinfo.specs.Roles.{role_of, role_under}

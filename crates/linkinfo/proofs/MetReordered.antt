@@ -1,12 +1,13 @@
 -- Lists in another order meet one another.
 use Rattle.std.specs.Prelude.{◌≡◌, ◌≢◌, ◌⊎◌, ℕ, ◌<◌, ◌^◌, ◌==◌, Bool, true, false, IsOk, IsTrue}
 use Rattle.std.specs.Prelude.{if◌then◌else◌, List, [], ◌∷◌, Option, None, Some, map, length, refl}
-use Rattle.std.specs.Prelude.{IfSome, is_some}
+use Rattle.std.specs.Prelude.{◌&&◌, IfSome, is_some}
 use Rattle.std.specs.List.{AllByRecursion, Any, Contains, filter, last_or}
 use Rattle.std.specs.List.Sorted.{IsPermutation}
 use Rattle.std.specs.Option.{option_map}
 use Rattle.std.proofs.Common.{arith, sym, ap, subst, ◌∙◌, inl, inr}
-use Rattle.std.proofs.lemmas.Bool.{cases_Bool, eq-eqb, eqb-true}
+use Rattle.std.proofs.lemmas.Bool.{and_from, cases_Bool, eq-eqb, eqb-true}
+use Rattle.std.proofs.lemmas.List.Folds.{list_any-from_Any}
 use Rattle.std.proofs.lemmas.Bool.Decides.{nat_tests}
 use Rattle.std.proofs.lemmas.List.Elements.{All-contains_itself, All-from_recursion, All-weaker}
 use Rattle.std.proofs.lemmas.List.Elements.{recursion_from_All}
@@ -14,17 +15,17 @@ use Rattle.std.proofs.lemmas.List.Sorted.{Contains-permutation, IsPermutation-sy
 use Rattle.std.proofs.lemmas.Map.Keys.{IsDistinct-IsPermutation, IsDistinct-head, IsDistinct-tail}
 use Rattle.nla_frame.specs.Attribute.{Attribute}
 use Rattle.nla_frame.specs.Payload.{stripped}
-use Rattle.nla_frame.specs.declared.error.Family.{Family}
-use Rattle.linkinfo_table.specs.Last.{attributes_of}
 use Rattle.linkinfo_table.proofs.Lasts.{last_holds}
 use Rattle.linkinfo_data.specs.Data.{data_of, family_of}
 use Rattle.linkinfo_table.specs.Layers.{Families, Types}
-use Rattle.linkinfo_data.specs.Listing.{Listing}
+use Rattle.linkinfo_data.specs.Lists.{family_in}
 use Rattle.linkinfo_data.specs.PortData.{port_data_of, port_family_of}
-use Rattle.linkinfo_data.specs.Unmet.{list_unmet, meets}
+use Rattle.linkinfo_table.specs.Contents.{Contents, ListOf, Listed, NoList}
+use Rattle.linkinfo_table.specs.Unmet.{list_unmet, meets}
 use Rattle.linkinfo.specs.Met.{EachHasOneLike, HasNoTypeTwice, IsLikeIn, IsReorderedData}
+use Rattle.linkinfo.specs.Met.{AttributeMeets, AttributesMeet, Chosen, ContentsMeet}
 use Rattle.linkinfo.specs.Met.{IsReorderedList, IsReordering, Item, ItemMeets, LastsMeet, ListMeets}
-use Rattle.linkinfo.specs.Met.{PayloadMeets, RoleMeets, is_list, items_of, items_under, last_of}
+use Rattle.linkinfo.specs.Met.{MembersMeet, RoleMeets, is_list, items_of, items_under, last_of}
 use Rattle.linkinfo.specs.Met.{name_in_list, names_in_list, nlas_of, role_of_item, type_of}
 use Rattle.linkinfo.specs.Met.{type_of_item}
 use Rattle.linkinfo.specs.Roles.{role_of}
@@ -34,7 +35,7 @@ use Rattle.linkinfo.specs.Unmet.{strings_unmet}
 use Rattle.linkinfo.specs.declared.role.CurrentKinds.{CurrentKinds}
 use Rattle.linkinfo.specs.declared.role.Role.TheVariants as role
 use Rattle.linkinfo.specs.declared.role.Role.{Role}
-use Rattle.linkinfo.proofs.Meeting.{list_met, meets_equal, role_equal, string_met}
+use Rattle.linkinfo.proofs.Meeting.{list_met, meets_equal, payload_equal, role_equal, string_met}
 use Rattle.linkinfo.proofs.MetLasts.{AreBoth, all_weaker, both_meet, last_mapped, last_typed}
 use Rattle.linkinfo.proofs.MetLasts.{same_named}
 use Rattle.linkinfo.proofs.MetNames.{Agree, agree_at, agree_same, agree_then, agree_turned}
@@ -189,27 +190,67 @@ both_lists type R Meets meets list other both = (
       (turned_both R (last_of type k list) (last_of type k other) (both k)),
 )
 
-list_reordered : (alike : Attribute → Attribute → Bool) (p q : List ℕ) → IsReorderedData p q →
-    ListMeets alike p q × ListMeets alike q p
-list_reordered alike p q order =
-    both_lists type_of (λ a b. a.value ≡ b.value) (λ h w. IsTrue (meets alike h w))
-    (λ a b e. (meets_equal alike a b e, meets_equal alike b a (sym e))) (nlas_of p) (nlas_of q)
-    (are_both (λ a b. a.value ≡ b.value) (nlas_of p) (nlas_of q) order)
+-- each attribute of a list has one of its type in another list with an equal payload
+members_like : (alike : Attribute → Attribute → Bool) (have : List Attribute)
+    (IsLike : Attribute → Attribute → Type 0) →
+    ((w h : Attribute) → IsLike w h → w.value ≡ h.value) → (want : List Attribute) →
+    EachHasOneLike IsLike want have → MembersMeet alike have want
+members_like alike have IsLike equal [] each = tt
+members_like alike have IsLike equal (w ∷ more) each =
+    let h = each.0 in (
+      list_any-from_Any (λ h. (type_of h == type_of w) && meets alike h w) have (
+        h.0,
+        h.1,
+        h.2,
+        h.3,
+        and_from (type_of h.1 == type_of w) (meets alike h.1 w) (eq-eqb _ _ h.4.0)
+            (meets_equal alike h.1 w (sym (equal w h.1 h.4.1))),
+      ),
+      members_like alike have IsLike equal more each.1,
+    )
 
-pub data_reordered : (name : Family) (alike : Attribute → Attribute → Bool) (p q : List ℕ) →
-    IsReorderedData p q →
-    (list_unmet name alike (attributes_of p) (attributes_of q) ≡ None)
-    × (list_unmet name alike (attributes_of q) (attributes_of p) ≡ None)
-data_reordered name alike p q order =
-    let both = list_reordered alike p q order in
-    ((list_met name alike p q).1 both.0, (list_met name alike q p).1 both.1)
+-- a list in another order, given that attributes meet those with an equal payload
+attributes_reordered : (l : Listed) (Meets : Attribute → Attribute → Type 0) →
+    ((a b : Attribute) → a.value ≡ b.value → Meets a b) → (p q : List ℕ) → IsReorderedData p q →
+    AttributesMeet l Meets (nlas_of p) (nlas_of q) × AttributesMeet l Meets (nlas_of q) (nlas_of p)
+attributes_reordered l Meets equal p q order = by_set l.is_set
+  where
+    by_set : (b : Bool) →
+        Chosen b (MembersMeet l.alike (nlas_of p) (nlas_of q))
+        (LastsMeet type_of Meets (nlas_of p) (nlas_of q))
+        × Chosen b (MembersMeet l.alike (nlas_of q) (nlas_of p))
+        (LastsMeet type_of Meets (nlas_of q) (nlas_of p))
+    by_set true = (
+      members_like l.alike (nlas_of p) (λ w h. h.value ≡ w.value) (λ w h e. sym e) (nlas_of q)
+          order.back,
+      members_like l.alike (nlas_of q) (λ w h. w.value ≡ h.value) (λ w h e. e) (nlas_of p)
+          order.forth,
+    )
+    by_set false =
+        both_lists type_of (λ a b. a.value ≡ b.value) Meets
+        (λ a b e. (equal a b e, equal b a (sym e))) (nlas_of p) (nlas_of q)
+        (are_both (λ a b. a.value ≡ b.value) (nlas_of p) (nlas_of q) order)
 
-payload_reordered : (o : Option Listing) (alike : List ℕ → List ℕ → Bool) (a b : Attribute) →
-    IsTrue (is_some o) → IsReorderedData a.value b.value →
-    PayloadMeets o alike a b × PayloadMeets o alike b a
-payload_reordered None alike a b listed order = absurd cc
-payload_reordered (Some listing) alike a b listed order =
-    list_reordered listing.alike a.value b.value order
+list_reordered : (l : Listed) (inside : ℕ → Contents) (p q : List ℕ) → IsReorderedData p q →
+    ListMeets l inside p q × ListMeets l inside q p
+list_reordered l inside p q order =
+    attributes_reordered l (AttributeMeets inside l.alike)
+    (λ a b e.
+    payload_equal (inside (type_of b)) (meets l.alike a b) a b (meets_equal l.alike a b e) e) p q
+    order
+
+pub data_reordered : (l : Listed) (inside : ℕ → Contents) (p q : List ℕ) → IsReorderedData p q →
+    (list_unmet l inside p q ≡ None) × (list_unmet l inside q p ≡ None)
+data_reordered l inside p q order =
+    let both = list_reordered l inside p q order in
+    ((list_met l inside p q).1 both.0, (list_met l inside q p).1 both.1)
+
+contents_reordered : (c : Contents) (met other : Bool) (a b : Attribute) →
+    IsTrue (is_some (family_in c)) → IsReorderedData a.value b.value →
+    ContentsMeet c met a b × ContentsMeet c other b a
+contents_reordered NoList met other a b listed order = absurd cc
+contents_reordered (ListOf l inside) met other a b listed order =
+    list_reordered l inside a.value b.value order
 
 -- ---- the names before an attribute of a list without a type twice
 
@@ -308,11 +349,9 @@ module _ {L : Types} (layer : Families L) where
       MeetBoth (RoleMeets layer r) a b
   like_meets r a b (inl e) = (role_equal layer r a b e, role_equal layer r b a (sym e))
   like_meets (role.Data tag) a b (inr h) =
-      let payload = data_of layer (family_of tag) in
-      payload_reordered payload.listing payload.alike a b h.0 h.1
+      contents_reordered (data_of layer (family_of tag)).contents _ _ a b h.0 h.1
   like_meets (role.PortData tag) a b (inr h) =
-      let payload = port_data_of layer (port_family_of tag) in
-      payload_reordered payload.listing payload.alike a b h.0 h.1
+      contents_reordered (port_data_of layer (port_family_of tag)).contents _ _ a b h.0 h.1
   like_meets r a b (inr h) = absurd (let e = h.0 in cc)
 
   item_meets : (r : Role) (known : Named) (x y : Item) → role_of_item y ≡ r →

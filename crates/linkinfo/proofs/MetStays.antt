@@ -1,18 +1,19 @@
 -- What is met stays met where attributes of other types are added.
-use Rattle.std.specs.Prelude.{◌≡◌, ◌⊎◌, ℕ, ◌==◌, Bool, true, false, if◌then◌else◌, IsTrue, List, []}
+use Rattle.std.specs.Prelude.{◌≡◌, ◌⊎◌, ℕ, ◌==◌, ◌&&◌, Bool, true, false, if◌then◌else◌, List, []}
 use Rattle.std.specs.Prelude.{◌∷◌, Option, None, Some, refl, IfSome}
-use Rattle.std.specs.List.{AllByRecursion, AllZip, filter}
+use Rattle.std.specs.List.{AllByRecursion, AllZip, filter, list_any}
+use Rattle.std.proofs.lemmas.List.Folds.{Any-from_list_any, list_any-from_Any}
 use Rattle.std.proofs.Common.{ap, inl, inr, subst, sym, ◌∙◌}
 use Rattle.std.proofs.lemmas.Bool.{cases_Bool, eq-eqb, eqb-true}
 use Rattle.nla_frame.specs.Attribute.{Attribute}
 use Rattle.nla_frame.specs.Payload.{stripped}
-use Rattle.nla_frame.specs.declared.error.Family.{Family}
-use Rattle.linkinfo_table.specs.Last.{attributes_of}
 use Rattle.linkinfo_table.proofs.Lasts.{last_holds}
 use Rattle.linkinfo_table.specs.Layers.{Families, Types}
-use Rattle.linkinfo_data.specs.Unmet.{list_unmet, meets}
-use Rattle.linkinfo.specs.Met.{DifferElsewhere, HaveSameLasts, IsMet, Item, ItemMeets, ListMeets}
-use Rattle.linkinfo.specs.Met.{RoleMeets}
+use Rattle.linkinfo_table.specs.Contents.{Contents, Listed}
+use Rattle.linkinfo_table.specs.Unmet.{list_unmet, meets}
+use Rattle.linkinfo.specs.Met.{AttributeMeets, AttributesMeet, AttributesStay, Chosen}
+use Rattle.linkinfo.specs.Met.{DifferElsewhere, HaveAll, HaveSameLasts, IsMet, Item, ItemMeets}
+use Rattle.linkinfo.specs.Met.{LastsMeet, MembersMeet, RoleMeets}
 use Rattle.linkinfo.specs.Met.{has_type, items_of, items_under, last_of, nlas_of, role_of_item}
 use Rattle.linkinfo.specs.Met.{type_of, type_of_item}
 use Rattle.linkinfo.specs.Unmet.{Named, names_after, no_names, strings_unmet}
@@ -34,33 +35,61 @@ by_last_type {X = X} type Q k list all =
 
 -- ---- data
 
-module _ (alike : Attribute → Attribute → Bool) (have more want : List ℕ)
-    (same : HaveSameLasts want have more) where
-  abbrev Meets : Attribute → Attribute → Type 0
-  Meets h w = IsTrue (meets alike h w)
+option_data : (Meets : Attribute → Attribute → Type 0) (h m w : Option Attribute) →
+    IfSome w (λ _. m ≡ h) → IsMet Meets h w → IsMet Meets m w
+option_data Meets h m None is met = tt
+option_data Meets h m (Some w) is met =
+    subst (λ (o : Option Attribute). IsMet Meets o (Some w)) (sym is) met
 
-  option_data : (h m w : Option Attribute) → IfSome w (λ _. m ≡ h) → IsMet Meets h w →
-      IsMet Meets m w
-  option_data h m None is met = tt
-  option_data h m (Some w) is met =
-      subst (λ (o : Option Attribute). IsMet Meets o (Some w)) (sym is) met
+lasts_stay : (Meets : Attribute → Attribute → Type 0) (have more want : List ℕ) →
+    HaveSameLasts want have more → LastsMeet type_of Meets (nlas_of have) (nlas_of want) →
+    LastsMeet type_of Meets (nlas_of more) (nlas_of want)
+lasts_stay Meets have more want same met = λ k.
+    option_data Meets (last_of type_of k (nlas_of have)) (last_of type_of k (nlas_of more))
+    (last_of type_of k (nlas_of want))
+    (by_last_type type_of
+    (λ n. last_of type_of n (nlas_of more) ≡ last_of type_of n (nlas_of have)) k
+    (nlas_of want) same)
+    (met k)
 
-  pub lists_stay : ListMeets alike have want → ListMeets alike more want
-  lists_stay met = λ k.
-      option_data (last_of type_of k (nlas_of have)) (last_of type_of k (nlas_of more))
-      (last_of type_of k (nlas_of want))
-      (by_last_type type_of
-      (λ n. last_of type_of n (nlas_of more) ≡ last_of type_of n (nlas_of have)) k
-      (nlas_of want) same)
-      (met k)
+-- a list with all attributes of another one has one that passes
+any_stays : (test : Attribute → Bool) (have more : List ℕ) → HaveAll have more →
+    list_any test (nlas_of have) ≡ true → list_any test (nlas_of more) ≡ true
+any_stays test have more all e =
+    let h = Any-from_list_any test (nlas_of have) e in
+    let there = all h.1 (h.0, h.2, h.3) in
+    list_any-from_Any test (nlas_of more) (there.0, h.1, there.1, there.2, h.4)
 
-pub data_stays : (name : Family) (alike : Attribute → Attribute → Bool) (have more want : List ℕ) →
-    HaveSameLasts want have more →
-    list_unmet name alike (attributes_of have) (attributes_of want) ≡ None →
-    list_unmet name alike (attributes_of more) (attributes_of want) ≡ None
-data_stays name alike have more want same e =
-    (list_met name alike more want).1
-    (lists_stay alike have more want same ((list_met name alike have want).0 e))
+members_stay : (alike : Attribute → Attribute → Bool) (have more : List ℕ) → HaveAll have more →
+    (want : List Attribute) → MembersMeet alike (nlas_of have) want →
+    MembersMeet alike (nlas_of more) want
+members_stay alike have more all [] met = tt
+members_stay alike have more all (w ∷ rest) met = (
+  any_stays (λ h. (type_of h == type_of w) && meets alike h w) have more all met.0,
+  members_stay alike have more all rest met.1,
+)
+
+pub attributes_stay : (l : Listed) (Meets : Attribute → Attribute → Type 0)
+    (have more want : List ℕ) → AttributesStay l want have more →
+    AttributesMeet l Meets (nlas_of have) (nlas_of want) →
+    AttributesMeet l Meets (nlas_of more) (nlas_of want)
+attributes_stay l Meets have more want stay met = go l.is_set stay met
+  where
+    go : (b : Bool) → Chosen b (HaveAll have more) (HaveSameLasts want have more) →
+        Chosen b (MembersMeet l.alike (nlas_of have) (nlas_of want))
+        (LastsMeet type_of Meets (nlas_of have) (nlas_of want)) →
+        Chosen b (MembersMeet l.alike (nlas_of more) (nlas_of want))
+        (LastsMeet type_of Meets (nlas_of more) (nlas_of want))
+    go true all met = members_stay l.alike have more all (nlas_of want) met
+    go false same met = lasts_stay Meets have more want same met
+
+pub data_stays : (l : Listed) (inside : ℕ → Contents) (have more want : List ℕ) →
+    AttributesStay l want have more → list_unmet l inside have want ≡ None →
+    list_unmet l inside more want ≡ None
+data_stays l inside have more want stay e =
+    (list_met l inside more want).1
+    (attributes_stay l (AttributeMeets inside l.alike) have more want stay
+    ((list_met l inside have want).0 e))
 
 -- ---- the names that matter to a list
 

@@ -61,7 +61,7 @@ use Rattle.linkinfo.specs.Roles.{
   role_under,
   with_name,
 }
-use Rattle.linkinfo_data.specs.Difference.{first_or}
+use Rattle.linkinfo_table.specs.Difference.{first_or}
 use Rattle.linkinfo.specs.Strings.{
   or_stay,
   next_kinds,

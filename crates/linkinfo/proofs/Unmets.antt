@@ -55,42 +55,24 @@ use Rattle.linkinfo_table.specs.Last.{
 use Rattle.linkinfo_table.specs.declared.last.PlacedNla.{PlacedNla}
 use Rattle.linkinfo_table.proofs.Lasts.{all_stand, last_passes, last_stands, stands_within}
 use Rattle.linkinfo_table.specs.Layers.{Families, Types}
-use Rattle.linkinfo_data.specs.Listing.{Listing, alike_in, family_in}
-use Rattle.linkinfo_data.specs.Unmet.{
-  counts,
-  first_told,
-  last_like,
-  list_unmet,
-  misses,
-  told_from,
-  unmet_at,
-}
-use Rattle.linkinfo_data.specs.declared.unmet.Unmet.{Unmet}
-use Rattle.linkinfo_data.specs.declared.unmet.UnmetAt.{UnmetAt}
-use Rattle.linkinfo_data.proofs.Blocks.{all_types, unmet_in}
-use Rattle.linkinfo_data.proofs.Unmets.{and_both}
+use Rattle.linkinfo_table.specs.Unmet.{first_of, whole_unmet}
+use Rattle.linkinfo_table.specs.declared.unmet.Unmet.{Unmet}
 use Rattle.linkinfo.specs.Items.{link_meaning, link_row}
-use Rattle.linkinfo_data.specs.Difference.{first_or}
+use Rattle.linkinfo_table.specs.Difference.{first_or}
 use Rattle.linkinfo.specs.Strings.{next_kinds, reading, values_from}
 use Rattle.linkinfo.specs.Unmet.{
   Linked,
   Named,
-  counted_unmet,
-  first_of,
-  inner_unmet,
-  item_unmet,
   kinds_named,
   link_at,
   link_unmet,
   names_after,
   names_before,
   no_names,
-  payload_unmet,
   role_of_link,
   role_unmet,
   same_kind,
-  strings_unmet,
-  whole_unmet,
+  whole_item_unmet,
 }
 use Rattle.linkinfo.specs.UnmetSteps.{
   HasAttribute,
@@ -111,7 +93,7 @@ use Rattle.std.proofs.lemmas.Slice.Eq.{bytes_eq-Decides}
 use Rattle.linkinfo_table.specs.Rows.{labelled, row_alike}
 use Rattle.linkinfo_table.specs.SelfList.{inside as in_payload}
 use Rattle.linkinfo_data.specs.Data.{data_of, family_of}
-use Rattle.linkinfo_data.specs.Equal.{option_decides}
+use Rattle.linkinfo_table.specs.Equal.{option_decides}
 use Rattle.linkinfo_data.specs.PortData.{port_data_of, port_family_of}
 use Rattle.linkinfo.proofs.Items.{unknown_from_six}
 use Rattle.linkinfo.proofs.Steps.{meaning_is, meant}
@@ -360,144 +342,6 @@ module _ (unmet : PlacedNla → Option Unmet) (p : PlacedNla) (more : List Place
   pub first_later : unmet p ≡ None → first_of unmet (p ∷ more) ≡ first_of unmet more
   first_later e = rw e refl
 
-first_step : (u : Option Unmet) (p : PlacedNla) (tail : Option UnmetAt) (rest : Option Unmet) →
-    unmet_in tail ≡ rest →
-    unmet_in (first_or (option_map (λ u. record { offset = p.offset; unmet = u }) u) tail)
-    ≡ first_or u rest
-first_step (Some u) p tail rest e = refl
-first_step None p tail rest e = e
-
--- of attributes of all types
-pub first_of_told : (unmet : PlacedNla → Option Unmet) (list : List PlacedNla) →
-    unmet_in (first_told (λ k. true) unmet list) ≡ first_of unmet list
-first_of_told unmet [] = refl
-first_of_told unmet (p ∷ more) =
-    first_step (unmet p) p (first_told (λ k. true) unmet more) (first_of unmet more)
-    (first_of_told unmet more)
-
--- .. once no type is left
-pub whole_list : {L : Types} (layer : Families L) (have want : List ℕ) (n : ℕ)
-    (first : Option UnmetAt) →
-    first ≡ first_told (λ k. nat_lt k n) (counted_unmet layer have want) (attributes_of want) →
-    types_end (attributes_of want) ≤ n → unmet_in first ≡ strings_unmet layer have want
-whole_list layer have want n first e le =
-    let unmet = counted_unmet layer have want in
-    ap unmet_in (e ∙ all_types n unmet (attributes_of want) le)
-    ∙ first_of_told unmet (attributes_of want)
-
--- ---- inside a payload
-
-find_holds : {A : Type 0} (P : A → Type 0) (test : A → Bool) (list : List A) →
-    AllByRecursion P list →
-    IfSome (find test list) P
-find_holds P test [] all = tt
-find_holds P test (x ∷ more) all =
-    elim (cases_Bool (test x)) [
-      | inl passes ↦ rw passes all.0
-      | inr other ↦ rw other (find_holds P test more all.1)
-    ]
-
--- what is not met is at offsets of the payloads
-pub record Inside (have want : List ℕ) (u : Unmet) : Type 0 where
-  pub wanted : u.want ≤ length want
-  pub found : IfSome u.have (λ n. n ≤ length have)
-
-offset_inside : (s : List ℕ) (o : Option PlacedNla) → IfSome o (StandsIn s) →
-    IfSome (offset_of o) (λ n. n ≤ length s)
-offset_inside s None h = tt
-offset_inside s (Some p) h = omega (arith, stands_within s p h)
-
-pub inside : (name : Family) (alike : Attribute → Attribute → Bool) (have want : List ℕ)
-    (u : Unmet) →
-    list_unmet name alike (attributes_of have) (attributes_of want) ≡ Some u → Inside have want u
-inside name alike have want u e =
-    go (find (misses alike (attributes_of have) (attributes_of want)) (attributes_of want))
-    (find_holds (StandsIn want) (misses alike (attributes_of have) (attributes_of want))
-    (attributes_of want) (all_stand want)) e
-  where
-    some_is : (v w : Unmet) → Some v ≡ Some w → w ≡ v
-    some_is v w h = cc
-
-    go : (o : Option PlacedNla) → IfSome o (StandsIn want) →
-        option_map (unmet_at name (attributes_of have)) o ≡ Some u → Inside have want u
-    go None h k = absurd cc
-    go (Some p) h k =
-        let is = some_is (unmet_at name (attributes_of have) p) u k in
-        subst (λ (v : Unmet). Inside have want v) (sym is)
-        (record {
-          wanted = omega (arith, stands_within want p h);
-          found =
-              offset_inside have (last_like (attributes_of have) p)
-              (last_stands (masked p.nla.kind) have);
-        })
-
-pub payload_list : (o : Option Listing) (name : Family) (alike : List ℕ → List ℕ → Bool)
-    (have want : PlacedNla) (u : Unmet) →
-    family_in o ≡ Some name →
-    list_unmet name (alike_in o) (attributes_of have.nla.value) (attributes_of want.nla.value)
-    ≡ Some u →
-    payload_unmet o alike have want ≡ Some (inner_unmet want have u)
-payload_list None name alike have want u e k = absurd cc
-payload_list (Some l) name alike have want u e k =
-    let same : l.family ≡ name = cc in
-    rw (same, k) refl
-
--- ---- an attribute that counts, and the last one of its type
-
-pub last_type : (kind : ℕ) (list : List PlacedNla) →
-    IfSome (last_of_type kind list) (λ p. masked p.nla.kind ≡ kind)
-last_type kind list = go (last_of_type kind list) (last_passes (has_type kind) None list tt)
-  where
-    go : (o : Option PlacedNla) → IfSome o (λ p. has_type kind p ≡ true) →
-        IfSome o (λ p. masked p.nla.kind ≡ kind)
-    go None h = tt
-    go (Some p) h = eqb-true _ _ h
-
-module _ {L : Types} (layer : Families L) (start : ℕ) (have want : List ℕ)
-    (w : PlacedNla) where
-  abbrev Told : Option UnmetAt → Type 0
-  Told o = told_from (covers start) (counted_unmet layer have want) w ≡ o
-
-  -- what of an attribute that counts is not met
-  pub told_is : (found : Option PlacedNla) (r : Option Unmet) →
-      (covers start (masked w.nla.kind) && counts (attributes_of want) w) ≡ true →
-      found ≡ last_like (attributes_of have) w →
-      r ≡ link_unmet layer (option_map (link_at have) found) (link_at want w) →
-      Told (option_map (λ u. record { offset = w.offset; unmet = u }) r)
-  told_is found r e last is =
-      let both =
-      and_both (covers start (masked w.nla.kind)) (counts (attributes_of want) w) e in
-      let like = last_like (attributes_of have) w in
-      let same : r ≡ link_unmet layer (option_map (link_at have) like) (link_at want w) =
-      is ∙ ap (λ (o : Option PlacedNla).
-      link_unmet layer (option_map (link_at have) o) (link_at want w)) last in
-      rw (both.0, both.1, ← same) refl
-
-  -- one without an entry, or that does not count
-  pub not_told : (covers start (masked w.nla.kind) && counts (attributes_of want) w) ≡ false →
-      Told None
-  not_told e =
-      elim (cases_Bool (covers start (masked w.nla.kind))) [
-        | inl covered ↦
-            let off : counts (attributes_of want) w ≡ false = rw covered at e in
-            rw (covered, off) refl
-        | inr no_entry ↦ rw no_entry refl
-      ]
-
--- the last attribute of a type, where an index has an entry for it, has that type
-pub indexed_type : (index : Indexed) (kind : ℕ) (n : ℕ) → kind ≡ n →
-    IfSome (indexed_last index kind) (λ p. masked p.nla.kind ≡ n)
-indexed_type index kind n e =
-    elim (cases_Bool (covers index.first kind)) [
-      | inl covered ↦
-          rw covered
-          (subst
-          (λ (k : ℕ). IfSome (last_of_type kind (attributes_of index.source))
-          (λ p. masked p.nla.kind ≡ k))
-          e (last_type kind (attributes_of index.source)))
-      | inr no_entry ↦ rw no_entry tt
-    ]
-
 -- ---- attributes of one type and kind have one role
 
 same_names : (m n : Option (List ℕ)) → option_eq bytes_eq m n ≡ true → m ≡ n
@@ -677,8 +521,8 @@ module _ {L : Types} (layer : Families L) where
 
   whole_by_role : (h w : Linked) (r : Role) → IsFree r →
       (if same_kind r h.named w.named then role_unmet layer r h.at w.at
-      else Some (whole_unmet w.at (Some h.at)))
-      ≡ item_unmet (row_alike (link_row layer r)) h.at w.at
+      else Some (whole_unmet family.LinkInfo w.at (Some h.at)))
+      ≡ whole_item_unmet (row_alike (link_row layer r)) h.at w.at
   whole_by_role h w (role.Data tag) free = absurd free
   whole_by_role h w role.Xstats free = absurd free
   whole_by_role h w (role.PortData tag) free = absurd free
@@ -689,12 +533,12 @@ module _ {L : Types} (layer : Families L) where
 
   pub free_unmet : (h w : Linked) (k : ℕ) (t : CurrentKinds) (r : Role) →
       r ≡ role_of t k → k ≡ masked w.at.nla.kind → belongs_to_a_kind k ≡ false →
-      item_unmet (row_alike (link_row layer r)) h.at w.at ≡ link_unmet layer (Some h) w
+      whole_item_unmet (row_alike (link_row layer r)) h.at w.at ≡ link_unmet layer (Some h) w
   free_unmet h w k t r is number free =
       let u = kinds_named w.named in
       let role : r ≡ role_of_link w =
       is ∙ same_role t u k free ∙ ap (λ (n : ℕ). role_of u n) number in
       let has_none : IsFree (role_of_link w) =
       subst (λ (n : ℕ). IsFree (role_of u n)) number (free_role u k free) in
-      ap (λ (q : Role). item_unmet (row_alike (link_row layer q)) h.at w.at) role
+      ap (λ (q : Role). whole_item_unmet (row_alike (link_row layer q)) h.at w.at) role
       ∙ sym (whole_by_role h w (role_of_link w) has_none)

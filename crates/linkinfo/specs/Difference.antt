@@ -1,24 +1,20 @@
 -- The first pair of attributes in which two lists of link info differ.
-use Rattle.std.specs.Prelude.{ℕ, ◌==◌, Bool, if◌then◌else◌, List, Option, None, Some}
-use Rattle.std.specs.Option.{option_map}
-use Rattle.nla_frame.specs.Attribute.{masked}
+use Rattle.std.specs.Prelude.{ℕ, List, Option}
 use Rattle.nla_frame.specs.declared.error.Family.TheVariants as family
 use Rattle.linkinfo_table.specs.Last.{attributes_of}
 use Rattle.linkinfo_table.specs.Rows.{row_alike}
 use Rattle.linkinfo_table.specs.declared.last.PlacedNla.{PlacedNla}
 use Rattle.linkinfo_data.specs.Data.{data_of, family_of}
-use Rattle.linkinfo_data.specs.Difference.{
-  differ,
-  inner_difference,
-  list_difference,
+use Rattle.linkinfo_table.specs.Difference.{
   pair_difference,
+  pairs_difference,
+  payload_difference,
+  typed_difference,
 }
-use Rattle.linkinfo_data.specs.Difference.{pairs_difference}
 use Rattle.linkinfo_table.specs.Layers.{Families, Types}
-use Rattle.linkinfo_data.specs.Listing.{Listing}
 use Rattle.linkinfo_data.specs.Payloads.{Payload}
 use Rattle.linkinfo_data.specs.PortData.{port_data_of, port_family_of}
-use Rattle.linkinfo_data.specs.declared.difference.Difference.{Difference}
+use Rattle.linkinfo_table.specs.declared.difference.Difference.{Difference}
 use Rattle.linkinfo.specs.Items.{link_row}
 use Rattle.linkinfo.specs.Roles.{no_kinds, role_at}
 use Rattle.linkinfo.specs.Strings.{next_kinds}
@@ -28,16 +24,9 @@ use Rattle.linkinfo.specs.declared.role.Role.{Role}
 
 -- the difference of two attributes with data: in their payloads if these are lists, otherwise of
 -- the attributes as a whole
-abbrev pub payload_difference : Option Listing → (List ℕ → List ℕ → Bool) → PlacedNla → PlacedNla →
-    Option Difference
-payload_difference (Some listing) alike p q =
-    option_map (inner_difference p q)
-    (list_difference listing.family listing.lists listing.alike p.nla.value q.nla.value)
-payload_difference None alike p q =
-    pair_difference family.LinkInfo (alike p.nla.value q.nla.value) p q
-
 abbrev pub data_difference : {X : Type 0} → Payload X → PlacedNla → PlacedNla → Option Difference
-data_difference payload p q = payload_difference payload.listing payload.alike p q
+data_difference payload p q =
+    payload_difference payload.contents family.LinkInfo (payload.alike p.nla.value q.nla.value) p q
 
 -- the difference of two attributes of one type, by the role of the first
 abbrev pub role_difference : {L : Types} → Families L → Role → PlacedNla → PlacedNla →
@@ -53,9 +42,7 @@ role_difference layer r p q =
 abbrev pub link_difference : {L : Types} → Families L → CurrentKinds → PlacedNla → PlacedNla →
     Option Difference
 link_difference layer t p q =
-    if masked q.nla.kind == masked p.nla.kind
-    then role_difference layer (role_at t p.nla) p q
-    else Some (differ family.LinkInfo p q)
+    typed_difference family.LinkInfo (role_difference layer (role_at t p.nla)) p q
 
 -- the difference of two byte strings: that of the first pair that has one, or the end of one of
 -- them before the other

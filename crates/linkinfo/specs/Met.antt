@@ -1,18 +1,21 @@
 -- When a list meets another one, told without offsets, and which lists do.
-use Rattle.std.specs.Prelude.{◌≡◌, ◌⊎◌, ℕ, ◌==◌, Bool, false, IsTrue, is_some, List, [], ◌∷◌, map}
+use Rattle.std.specs.Prelude.{◌≡◌, ◌⊎◌, ℕ, ◌==◌, ◌&&◌, Bool, true, false, IsTrue, is_some}
+use Rattle.std.specs.Prelude.{List, [], ◌∷◌, map}
 use Rattle.std.specs.Prelude.{Option, None, Some}
-use Rattle.std.specs.List.{AllByRecursion, AllZip, Any, IsDistinct, filter, last_or, list_any}
+use Rattle.std.specs.List.{AllByRecursion, AllZip, Any, Contains, IsDistinct, filter, last_or}
+use Rattle.std.specs.List.{list_any}
 use Rattle.std.specs.Option.{option_map}
 use Rattle.nla_frame.specs.Attribute.{Attribute, masked}
 use Rattle.nla_frame.specs.Payload.{stripped}
+use Rattle.linkinfo_table.specs.Contents.{Contents, ListOf, Listed, NoList}
 use Rattle.linkinfo_table.specs.Last.{attributes_of}
 use Rattle.linkinfo_table.specs.Rows.{row_alike}
 use Rattle.linkinfo_data.specs.Data.{data_of, family_of}
 use Rattle.linkinfo_table.specs.Layers.{Families, Types}
-use Rattle.linkinfo_data.specs.Listing.{Listing}
+use Rattle.linkinfo_data.specs.Lists.{family_in}
 use Rattle.linkinfo_data.specs.Payloads.{Payload}
 use Rattle.linkinfo_data.specs.PortData.{port_data_of, port_family_of}
-use Rattle.linkinfo_data.specs.Unmet.{meets}
+use Rattle.linkinfo_table.specs.Unmet.{meets}
 use Rattle.linkinfo.specs.Items.{link_row}
 use Rattle.linkinfo.specs.Roles.{role_of}
 use Rattle.linkinfo.specs.Unmet.{Named, kinds_named, names_after, no_names, same_kind}
@@ -67,19 +70,52 @@ items_of s = items_under no_names (nlas_of s)
 
 -- ---- what is met
 
--- attributes of data that is a list: the payloads are equal, or the attributes are equivalent
-abbrev pub ListMeets : (Attribute → Attribute → Bool) → List ℕ → List ℕ → Type 0
-ListMeets alike have want =
-    LastsMeet type_of (λ h w. IsTrue (meets alike h w)) (nlas_of have) (nlas_of want)
+-- the first condition, or the second one
+abbrev pub Chosen : Bool → Type 0 → Type 0 → Type 0
+Chosen true P Q = P
+Chosen false P Q = Q
+
+-- each attribute of a set is met by one of its type in another set
+abbrev pub MembersMeet : (Attribute → Attribute → Bool) → List Attribute → List Attribute → Type 0
+MembersMeet alike have want =
+    AllByRecursion
+    (λ w. IsTrue (list_any (λ h. (type_of h == type_of w) && meets alike h w) have)) want
+
+-- the attributes of a list are met: those of a set, or the last one of each type by the last one of
+-- that type, given when one attribute meets another one of its type
+abbrev pub AttributesMeet : Listed → (Attribute → Attribute → Type 0) → List Attribute →
+    List Attribute → Type 0
+AttributesMeet l Meets have want =
+    Chosen l.is_set (MembersMeet l.alike have want) (LastsMeet type_of Meets have want)
+
+-- an attribute meets another one of its type: its list does, if it contains one, and else it does
+-- as a whole
+abbrev pub PayloadMeets : Contents → Bool → Attribute → Attribute → Type 0
+PayloadMeets NoList met have want = IsTrue met
+PayloadMeets (ListOf l inside) met have want =
+    Chosen l.is_whole (IsTrue met)
+    (AttributesMeet l (λ h w. PayloadMeets (inside (type_of w)) (meets l.alike h w) h w)
+    (nlas_of have.value) (nlas_of want.value))
+
+-- .. given what the attributes of each type contain
+abbrev pub AttributeMeets : (ℕ → Contents) → (Attribute → Attribute → Bool) → Attribute →
+    Attribute → Type 0
+AttributeMeets contents alike have want =
+    PayloadMeets (contents (type_of want)) (meets alike have want) have want
+
+-- a payload that is a list meets another one
+abbrev pub ListMeets : Listed → (ℕ → Contents) → List ℕ → List ℕ → Type 0
+ListMeets l inside have want =
+    AttributesMeet l (AttributeMeets inside l.alike) (nlas_of have) (nlas_of want)
 
 -- data: attribute by attribute where it is a list, and else as a whole
-abbrev pub PayloadMeets :
-    Option Listing → (List ℕ → List ℕ → Bool) → Attribute → Attribute → Type 0
-PayloadMeets (Some listing) alike have want = ListMeets listing.alike have.value want.value
-PayloadMeets None alike have want = IsTrue (meets (λ a b. alike a.value b.value) have want)
+abbrev pub ContentsMeet : Contents → Bool → Attribute → Attribute → Type 0
+ContentsMeet NoList met have want = IsTrue met
+ContentsMeet (ListOf l inside) met have want = ListMeets l inside have.value want.value
 
 abbrev pub DataMeets : {X : Type 0} → Payload X → Attribute → Attribute → Type 0
-DataMeets payload have want = PayloadMeets payload.listing payload.alike have want
+DataMeets payload have want =
+    ContentsMeet payload.contents (meets (λ a b. payload.alike a.value b.value) have want) have want
 
 -- an attribute of the list, by its role
 abbrev pub RoleMeets : {L : Types} → Families L → Role → Attribute → Attribute → Type 0
@@ -107,6 +143,22 @@ HaveSameLasts want have more =
     AllByRecursion
     (λ w. last_of type_of (type_of w) (nlas_of more) ≡ last_of type_of (type_of w) (nlas_of have))
     (nlas_of want)
+
+-- one list has each attribute of another one
+abbrev pub HaveAll : List ℕ → List ℕ → Type 0
+HaveAll have more =
+    (a : Attribute) → Contains (nlas_of have) a → Contains (nlas_of more) a
+
+-- what is wanted of a list has stayed: of a set all attributes, and otherwise the last one of each
+-- type that is wanted
+abbrev pub AttributesStay : Listed → List ℕ → List ℕ → List ℕ → Type 0
+AttributesStay l want have more =
+    Chosen l.is_set (HaveAll have more) (HaveSameLasts want have more)
+
+-- .. of data that is a list
+abbrev pub ContentsStay : Contents → List ℕ → List ℕ → List ℕ → Type 0
+ContentsStay NoList want have more = ⊥
+ContentsStay (ListOf l inside) want have more = AttributesStay l want have more
 
 -- a list has an attribute of a type
 abbrev pub has_type : List Attribute → ℕ → Bool
@@ -153,11 +205,15 @@ names_in_list list = record { kind = name_in_list list 1; port = name_in_list li
 abbrev pub role_in_list : List Attribute → Attribute → Role
 role_in_list list a = role_of (kinds_named (names_in_list list)) (type_of a)
 
+-- what an attribute of the list contains
+abbrev pub contents_in : {L : Types} → Families L → Role → Contents
+contents_in layer (role.Data tag) = (data_of layer (family_of tag)).contents
+contents_in layer (role.PortData tag) = (port_data_of layer (port_family_of tag)).contents
+contents_in layer _ = NoList
+
 -- data that is a list of attributes of a family
 abbrev pub is_list : {L : Types} → Families L → Role → Bool
-is_list layer (role.Data tag) = is_some (data_of layer (family_of tag)).listing
-is_list layer (role.PortData tag) = is_some (port_data_of layer (port_family_of tag)).listing
-is_list layer _ = false
+is_list layer r = is_some (family_in (contents_in layer r))
 
 -- the payloads are equal, or data that is a list is in another order
 abbrev pub IsLikeIn : {L : Types} → Families L → List Attribute → Attribute → Attribute → Type 0
@@ -171,12 +227,11 @@ IsReorderedList layer s t =
 
 -- ---- lists with more attributes inside data
 
--- wanted data of this type is a list, and of each type in it the last attribute has stayed
+-- wanted data of this type is a list, and what is wanted of it has stayed
 abbrev pub StaysFor : {L : Types} → Families L → Item → Item → Item → Type 0
 StaysFor layer old new want =
     type_of_item want ≡ type_of_item old →
-    IsTrue (is_list layer (role_of_item want))
-    × HaveSameLasts want.nla.value old.nla.value new.nla.value
+    ContentsStay (contents_in layer (role_of_item want)) want.nla.value old.nla.value new.nla.value
 
 -- an attribute of the list has stayed, or is data that has changed beside what is wanted
 pub record HasGained {L : Types} (layer : Families L) (want : List Item) (old new : Item) :

@@ -1,12 +1,12 @@
 -- The offsets of the error of a byte string.
-use Rattle.std.specs.Prelude.{◌≡◌, ℕ, ◌+◌, min, sum_by, List, length, Option, None, Some, unwrap_or}
+use Rattle.std.specs.Prelude.{◌≡◌, ℕ, ◌+◌, min, sum_by, List, length, unwrap_or}
 use Rattle.std.proofs.Common.{inl, inr}
 use Rattle.nla_frame.specs.Attribute.{Attribute, aligned}
 use Rattle.nla_frame.specs.declared.error.DecodeError.{DecodeError}
+use Rattle.linkinfo_table.specs.Contents.{Contents}
 use Rattle.linkinfo_table.specs.Layers.{Families, Types}
 use Rattle.linkinfo_data.specs.Data.{data_of, family_of}
-use Rattle.linkinfo_data.specs.Difference.{list_error}
-use Rattle.linkinfo_data.specs.Listing.{Listing}
+use Rattle.linkinfo_data.specs.Lists.{error_in as error_in_data}
 use Rattle.linkinfo_data.specs.PortData.{port_data_of, port_family_of}
 use Rattle.linkinfo.specs.Roles.{no_kinds, role_at}
 use Rattle.linkinfo.specs.Strings.{IsRejected, kinds_after_all}
@@ -32,19 +32,17 @@ IsRejectedAt layer s e place =
 -- ---- the innermost attribute that has the error
 
 -- the offset of the error of rejected data, from the header of its attribute: that of an attribute
--- of a list in it, or that of the first attribute in it
-abbrev pub error_in_payload : Option Listing → List ℕ → ℕ
-error_in_payload (Some listing) payload =
-    4 + unwrap_or (list_error listing.lists listing.accepts payload) 0
-error_in_payload None payload = 4
+-- in it, in lists at any depth, or that of the first attribute in it
+abbrev pub error_in_payload : Contents → List ℕ → ℕ
+error_in_payload contents payload = 4 + unwrap_or (error_in_data contents payload) 0
 
 -- the offset of the error of a rejected attribute of the list, from its header: 0 for names,
 -- statistics and unknown attributes
 abbrev pub error_in : {L : Types} → Families L → Role → Attribute → ℕ
 error_in layer (role.Data tag) a =
-    error_in_payload (data_of layer (family_of tag)).listing a.value
+    error_in_payload (data_of layer (family_of tag)).contents a.value
 error_in layer (role.PortData tag) a =
-    error_in_payload (port_data_of layer (port_family_of tag)).listing a.value
+    error_in_payload (port_data_of layer (port_family_of tag)).contents a.value
 error_in layer _ a = 0
 
 abbrev pub error_in_rejected : {L : Types} (layer : Families L) (s : List ℕ) (e : DecodeError) →

@@ -25,7 +25,7 @@ use Rattle.linkinfo_numbers.specs.declared.tags.PortTag.{PortTag}
 use Rattle.linkinfo_numbers.specs.Kind.{tag_of_kind, tag_of_name}
 use Rattle.linkinfo_numbers.specs.PortKind.{port_tag_of_name, tag_of_port_kind}
 use Rattle.nla_frame.specs.Payload.{stripped}
-use Rattle.linkinfo_data.specs.Difference.{first_or}
+use Rattle.linkinfo_table.specs.Difference.{first_or}
 use Rattle.linkinfo_table.specs.Layers.{Families, Types}
 use Rattle.linkinfo_table.specs.Readings.{HasError, MeanEach, MeansList, state_after}
 use Rattle.linkinfo_table.specs.Lists.{

@@ -2,7 +2,6 @@
 use Rattle.std.specs.Prelude.{
   ℕ,
   ◌==◌,
-  ◌+◌,
   nat_lt,
   Bool,
   true,
@@ -23,19 +22,25 @@ use Rattle.nla_frame.specs.declared.error.DecodeError.{DecodeError}
 use Rattle.nla_frame.specs.declared.error.Family.TheVariants as family
 use Rattle.linkinfo_numbers.specs.Kind.{tag_of_name}
 use Rattle.linkinfo_numbers.specs.PortKind.{port_tag_of_name}
-use Rattle.linkinfo_table.specs.Last.{attributes_of, offset_of}
+use Rattle.linkinfo_table.specs.Contents.{Contents, ListOf, NoList}
+use Rattle.linkinfo_table.specs.Last.{attributes_of}
 use Rattle.linkinfo_table.specs.Rows.{row_alike}
 use Rattle.linkinfo_table.specs.declared.last.PlacedNla.{PlacedNla}
 use Rattle.linkinfo_data.specs.Data.{data_of, family_of}
 use Rattle.linkinfo_table.specs.Layers.{Families, Types}
-use Rattle.linkinfo_data.specs.Listing.{Listing}
 use Rattle.linkinfo_data.specs.Payloads.{Payload}
 use Rattle.linkinfo_data.specs.PortData.{port_data_of, port_family_of}
-use Rattle.linkinfo_data.specs.Unmet.{counts, last_like, list_unmet, meets}
-use Rattle.linkinfo_data.specs.declared.unmet.Unmet.{Unmet}
+use Rattle.linkinfo_table.specs.Unmet.{
+  inner_unmet,
+  item_unmet,
+  lasts_unmet,
+  list_unmet,
+  meets,
+  whole_unmet,
+}
+use Rattle.linkinfo_table.specs.declared.unmet.Unmet.{Unmet}
 use Rattle.linkinfo.specs.Items.{link_row}
 use Rattle.linkinfo.specs.Roles.{role_of}
-use Rattle.linkinfo_data.specs.Difference.{first_or}
 use Rattle.linkinfo.specs.declared.placed.ErrorIn.TheVariants.{First, Second}
 use Rattle.linkinfo.specs.declared.placed.ErrorIn.{ErrorIn}
 use Rattle.linkinfo.specs.declared.role.CurrentKinds.{CurrentKinds}
@@ -96,71 +101,47 @@ same_kind role.Xstats m n = option_eq bytes_eq m.kind n.kind
 same_kind (role.PortData tag) m n = option_eq bytes_eq m.port n.port
 same_kind _ m n = true
 
--- an attribute of the list that is not met as a whole
-abbrev pub whole_unmet : PlacedNla → Option PlacedNla → Unmet
-whole_unmet want have = record {
-  family = family.LinkInfo;
-  kind = masked want.nla.kind;
-  want = want.offset;
-  have = offset_of have;
-}
-
--- one of its payload, by offsets in the list
-abbrev pub inner_unmet : PlacedNla → PlacedNla → Unmet → Unmet
-inner_unmet want have inner = record {
-  family = inner.family;
-  kind = inner.kind;
-  want = want.offset + 4 + inner.want;
-  have = option_map (λ n. have.offset + 4 + n) inner.have;
-}
-
 -- of two attributes of one type and kind: the whole, where the payloads differ and are not
 -- equivalent, ..
-abbrev pub item_unmet : (Attribute → Attribute → Bool) → PlacedNla → PlacedNla → Option Unmet
-item_unmet alike have want =
-    if meets alike have.nla want.nla then None else Some (whole_unmet want (Some have))
+abbrev pub whole_item_unmet : (Attribute → Attribute → Bool) → PlacedNla → PlacedNla → Option Unmet
+whole_item_unmet alike have want =
+    item_unmet family.LinkInfo (meets alike have.nla want.nla) have want
 
--- .. or an attribute of the payload, where it is a list
-abbrev pub payload_unmet : Option Listing → (List ℕ → List ℕ → Bool) → PlacedNla → PlacedNla →
-    Option Unmet
-payload_unmet (Some listing) alike have want =
-    option_map (inner_unmet want have)
-    (list_unmet listing.family listing.alike (attributes_of have.nla.value)
-    (attributes_of want.nla.value))
-payload_unmet None alike have want = item_unmet (λ a b. alike a.value b.value) have want
+-- .. or an attribute in the payload, where it is a list
+abbrev pub contents_unmet : Contents → Bool → PlacedNla → PlacedNla → Option Unmet
+contents_unmet NoList met have want = item_unmet family.LinkInfo met have want
+contents_unmet (ListOf l inside) met have want =
+    option_map (inner_unmet want have) (list_unmet l inside have.nla.value want.nla.value)
 
 abbrev pub data_unmet : {X : Type 0} → Payload X → PlacedNla → PlacedNla → Option Unmet
-data_unmet payload have want = payload_unmet payload.listing payload.alike have want
+data_unmet payload have want =
+    contents_unmet payload.contents
+    (meets (λ a b. payload.alike a.value b.value) have.nla want.nla) have want
 
 abbrev pub role_unmet : {L : Types} → Families L → Role → PlacedNla → PlacedNla → Option Unmet
 role_unmet layer (role.Data tag) have want =
     data_unmet (data_of layer (family_of tag)) have want
 role_unmet layer (role.PortData tag) have want =
     data_unmet (port_data_of layer (port_family_of tag)) have want
-role_unmet layer r have want = item_unmet (row_alike (link_row layer r)) have want
+role_unmet layer r have want = whole_item_unmet (row_alike (link_row layer r)) have want
 
 abbrev pub link_unmet : {L : Types} → Families L → Option Linked → Linked → Option Unmet
-link_unmet layer None want = Some (whole_unmet want.at None)
+link_unmet layer None want = Some (whole_unmet family.LinkInfo want.at None)
 link_unmet layer (Some have) want =
     if same_kind (role_of_link want) have.named want.named
     then role_unmet layer (role_of_link want) have.at want.at
-    else Some (whole_unmet want.at (Some have.at))
+    else Some (whole_unmet family.LinkInfo want.at (Some have.at))
 
--- of an attribute that counts, by the last one of its type in the other list
-abbrev pub counted_unmet : {L : Types} → Families L → List ℕ → List ℕ → PlacedNla → Option Unmet
-counted_unmet layer have want p =
-    if counts (attributes_of want) p
-    then link_unmet layer (option_map (link_at have) (last_like (attributes_of have) p))
-    (link_at want p)
-    else None
+-- of an attribute of one list by one of another list, or none, each with the names before it
+abbrev pub linked_unmet : {L : Types} → Families L → List ℕ → List ℕ → Option PlacedNla →
+    PlacedNla → Option Unmet
+linked_unmet layer have want found p =
+    link_unmet layer (option_map (link_at have) found) (link_at want p)
 
--- the first
-abbrev pub first_of : (PlacedNla → Option Unmet) → List PlacedNla → Option Unmet
-first_of unmet [] = None
-first_of unmet (p ∷ more) = first_or (unmet p) (first_of unmet more)
-
+-- .. the first, of the attributes that count, by the last one of its type in the other list
 abbrev pub strings_unmet : {L : Types} → Families L → List ℕ → List ℕ → Option Unmet
-strings_unmet layer have want = first_of (counted_unmet layer have want) (attributes_of want)
+strings_unmet layer have want =
+    lasts_unmet (linked_unmet layer have want) (attributes_of have) (attributes_of want)
 
 -- the error of the first string, else that of the second, else what is not met
 abbrev pub unmet_answer : {X : Type 0} → Result X DecodeError → Result X DecodeError →

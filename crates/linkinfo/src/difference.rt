@@ -16,7 +16,7 @@ use linkinfo_data::{
     DataFamily, DataLayer, Difference, InfoDataOf, InfoPortDataOf, PayloadFamily, PortFamily,
     family_of, list_difference, port_family_of, same_payloads,
 };
-use linkinfo_table::PlacedNla;
+use linkinfo_table::{PlacedNla, whole_difference};
 use nla_frame::{Bytes, Family, HeaderCount, next_attribute};
 
 /// The first difference of two attributes with data of one family: in the data if that is a list,
@@ -34,12 +34,14 @@ fn data_difference<D: Drop, F: PayloadFamily<D>>(
 {
     let (x, y) = (p.nla.value(), q.nla.value());
     match family.listing() {
-        Some(name) => {
-            let inside = list_difference::<D, F>(family, name, x, y)?;
+        Some(_) => {
+            let inside = list_difference::<D, F>(family, x, y)?;
             Some(inside.inside(p, q))
         }
-        None if same_payloads::<D, F>(family, x, y, &mut HeaderCount::new()) => None,
-        None => Some(Difference::of_pair(Family::LinkInfo, p, q)),
+        None => {
+            let is_same = same_payloads::<D, F>(family, x, y, &mut HeaderCount::new());
+            whole_difference(Family::LinkInfo, is_same, p, q)
+        }
     }
 }
 
@@ -114,10 +116,10 @@ fn first_difference_in<P: DataLayer>(a: &[u8], b: &[u8]) -> Option<Difference>
 /// `None` if and only if the lists are equivalent (`same_of`).
 ///
 /// Attributes are compared in byte order. Data that is a list is compared attribute by attribute,
-/// and so are lists inside it. Data of veth and vxcan links, and data without a family, is compared
-/// as a whole. In the result, `family` is the family of the data that differs, or
-/// `Family::LinkInfo`. Offsets are in bytes from the beginning of each list, and `None` for a list
-/// that has ended.
+/// and so are lists inside it, of any family. Data of veth and vxcan links, and data without a
+/// family, is compared as a whole. In the result, `family` is that of the innermost attributes that
+/// differ, or `Family::LinkInfo`. Offsets are in bytes from the beginning of each list, and `None`
+/// for a list that has ended.
 ///
 /// The error is that of `a`, otherwise that of `b`. Each header is examined at most four times.
 /// Does not allocate.

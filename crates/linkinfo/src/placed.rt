@@ -99,7 +99,7 @@ impl ExactEq for ErrorIn {
 /// the data. It is that of the innermost attribute if the data is a list, otherwise that of the
 /// data's first attribute.
 fn error_in_payload<D: Drop, F: PayloadFamily<D>>(family: F, payload: &[u8]) -> usize
-    ensures offset { result ≡ error_in_payload (F.data_of family).listing payload.now }
+    ensures offset { result ≡ error_in_payload (F.data_of family).contents payload.now }
     ensures within { result ≤ 4 + length payload.now }
 {
     if family.listing().is_none() {

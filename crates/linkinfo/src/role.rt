@@ -30,7 +30,7 @@ pub struct CurrentKinds {
 impl ExactEq for CurrentKinds {
     ghost use Rattle.std.specs.Prelude.{refl};
     ghost use Rattle.nla_frame.specs.Derived.{fields_decide, two_fields};
-    ghost use Rattle.linkinfo_data.specs.Equal.{option_decides};
+    ghost use Rattle.linkinfo_table.specs.Equal.{option_decides};
     ghost use Rattle.linkinfo_numbers.specs.contracts.tags.KindTagExactEq.TheImpl.Laws.{
       exact-law as kind_exact,
     };

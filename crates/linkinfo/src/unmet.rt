@@ -12,20 +12,18 @@ ghost use Rattle.linkinfo.specs.UnmetSteps.{
   name_there,
   port_place,
 };
-ghost use Rattle.nla_frame.specs.declared.error.Family.TheVariants as family;
 ghost use Rattle.std.specs.Option.{option_copied, option_map};
 ghost use Rattle.linkinfo_table.specs.Last.{attributes_of, covers};
-ghost use Rattle.linkinfo_data.specs.Unmet.{first_told};
+ghost use Rattle.linkinfo_table.specs.Unmet.{counted_unmet, first_told};
 ghost use Rattle.linkinfo_data.specs.BytesLayer.{bytes_layer};
 ghost use Rattle.linkinfo.specs.Items.{item_alike, item_meaning};
 ghost use Rattle.linkinfo.specs.Strings.{reading};
 ghost use Rattle.linkinfo.specs.Unmet.{
-  counted_unmet,
   data_unmet,
-  item_unmet,
   kinds_named,
   link_at,
   link_unmet,
+  linked_unmet,
   names_before,
   names_in,
   no_names,
@@ -33,6 +31,7 @@ ghost use Rattle.linkinfo.specs.Unmet.{
   same_kind,
   strings_unmet,
   unmet_answer,
+  whole_item_unmet,
 };
 
 use crate::item::same_item;
@@ -40,14 +39,16 @@ use crate::list::check_of;
 use crate::placed::ErrorIn;
 use crate::role::{CurrentKinds, Role, role_of};
 use linkinfo_data::{
-    DataFamily, DataLayer, InfoDataOf, InfoPortDataOf, PayloadFamily, PortFamily, Unmet, UnmetAt,
-    earlier, family_of, list_unmet, port_family_of, same_payloads,
+    DataFamily, DataLayer, InfoDataOf, InfoPortDataOf, PayloadFamily, PortFamily, family_of,
+    list_unmet, port_family_of, same_payloads,
 };
 use linkinfo_numbers::{
     IFLA_INFO_DATA, IFLA_INFO_KIND, IFLA_INFO_SLAVE_DATA, IFLA_INFO_SLAVE_KIND, IFLA_INFO_XSTATS,
     port_tag_of_name, tag_of_name,
 };
-use linkinfo_table::{INDEXED, LastOfType, PlacedNla, types_end};
+use linkinfo_table::{
+    INDEXED, LastOfType, PlacedNla, Unmet, UnmetAt, earlier, types_end, unmet_as_whole,
+};
 use nla_frame::{Bytes, Family, HeaderCount, NlaBuffer, next_attribute, without_nul};
 
 /// The names of the current kinds.
@@ -144,23 +145,6 @@ fn is_same_kind(role: Role, have: Names<'_>, want: Names<'_>) -> bool
     }
 }
 
-/// An attribute of the list that is not met as a whole.
-fn whole(want: &PlacedNla<'_>, have: Option<usize>) -> Unmet
-    ensures { result ≡ record {
-      family = family.LinkInfo;
-      kind = masked want.now.nla.kind;
-      want = want.now.offset;
-      have = have;
-    } }
-{
-    Unmet {
-        family: Family::LinkInfo,
-        kind: want.nla.kind(),
-        want: want.offset,
-        have,
-    }
-}
-
 /// What of data `want` does not find in data `have` of its kind: an attribute, where data is a
 /// list.
 fn data_unmet<D: Drop, F: PayloadFamily<D>>(
@@ -179,20 +163,14 @@ fn data_unmet<D: Drop, F: PayloadFamily<D>>(
         return None;
     }
     match family.listing() {
-        Some(name) => {
-            let inner = list_unmet::<D, F>(family, name, had, wanted)?;
-            Some(Unmet {
-                family: inner.family,
-                kind: inner.kind,
-                want: want.offset + 4 + inner.want,
-                have: match inner.have {
-                    Some(offset) => Some(have.offset + 4 + offset),
-                    None => None,
-                },
-            })
+        Some(_) => {
+            let inside = list_unmet::<D, F>(family, had, wanted)?;
+            Some(inside.inside(want, have))
         }
-        None if same_payloads::<D, F>(family, had, wanted, &mut HeaderCount::new()) => None,
-        None => Some(whole(want, Some(have.offset))),
+        None => {
+            let is_met = same_payloads::<D, F>(family, had, wanted, &mut HeaderCount::new());
+            unmet_as_whole(Family::LinkInfo, is_met, have, want)
+        }
     }
 }
 
@@ -221,7 +199,7 @@ fn placed_unmet<P: DataLayer>(
         (link_at want.now placed.now) }
 {
     let Some(found) = found else {
-        return Some(whole(placed, None));
+        return Some(Unmet::of_whole(Family::LinkInfo, placed, None));
     };
     let kind = placed.nla.kind();
     if !belongs_to_a_kind(kind) {
@@ -231,7 +209,7 @@ fn placed_unmet<P: DataLayer>(
     let wanted = names_before(want, placed.offset);
     let role = role_of(wanted.kinds(), kind);
     if !is_same_kind(role, had, wanted) {
-        return Some(whole(placed, Some(found.offset)));
+        return Some(Unmet::of_whole(Family::LinkInfo, placed, Some(found.offset)));
     }
     role_unmet::<P>(role, found, placed)
 }
@@ -258,15 +236,11 @@ fn role_unmet<P: DataLayer>(role: Role, have: &PlacedNla<'_>, want: &PlacedNla<'
 fn item_unmet<P: DataLayer>(role: Role, have: &PlacedNla<'_>, want: &PlacedNla<'_>) -> Option<Unmet>
     requires have { IsOk (item_meaning P.families role have.now.nla) }
     requires want { IsOk (item_meaning P.families role want.now.nla) }
-    ensures { result ≡ item_unmet (item_alike P.families role) have.now want.now }
+    ensures { result ≡ whole_item_unmet (item_alike P.families role) have.now want.now }
 {
-    if have.nla.value() == want.nla.value()
-        || same_item::<P>(&have.nla, &want.nla, role, &mut HeaderCount::new())
-    {
-        None
-    } else {
-        Some(whole(want, Some(have.offset)))
-    }
+    let is_met = have.nla.value() == want.nla.value()
+        || same_item::<P>(&have.nla, &want.nla, role, &mut HeaderCount::new());
+    unmet_as_whole(Family::LinkInfo, is_met, have, want)
 }
 
 /// The first attribute of an accepted list that another one does not meet.
@@ -290,8 +264,10 @@ fn first_unmet_in<P: DataLayer>(have: &[u8], want: &[u8]) -> Option<Unmet>
 fn unmet_from<P: DataLayer>(have: &[u8], want: &[u8], start: u16) -> Option<UnmetAt>
     requires have { IsOk (reading P.families have.now) }
     requires want { IsOk (reading P.families want.now) }
-    ensures { result ≡ first_told (covers start) (counted_unmet P.families have.now want.now)
-        (attributes_of want.now) }
+    ensures { result
+        ≡ first_told (covers start)
+        (counted_unmet (linked_unmet P.families have.now want.now) (attributes_of have.now)
+        (attributes_of want.now)) (attributes_of want.now) }
 {
     let found = LastOfType::new(have, start);
     let wanted = LastOfType::new(want, start);
@@ -318,14 +294,17 @@ fn unmet_from<P: DataLayer>(have: &[u8], want: &[u8], start: u16) -> Option<Unme
 ///
 /// Of several attributes of a type the last one counts, as in the kernel. It is met where the last
 /// attribute of its type in `have`, of the same kind or port kind, has an equal payload or is
-/// equivalent. Data that is a list is compared attribute by attribute (`list_unmet`). Names, other
-/// data, statistics, and lists inside data are compared as a whole, with their order and the flags
-/// inside. Flags of an attribute's own type do not matter. Empty data is met by data alone.
+/// equivalent. Data that is a list is compared attribute by attribute (`list_unmet`), and so are
+/// lists of another family in it, at any depth: in a list that is a set, each attribute must be met
+/// by one of its type, in any order. Names, other data, statistics, lists of addresses, and lists
+/// of the family itself are compared as a whole, with their order and the flags inside. Flags of an
+/// attribute's own type do not matter. Empty data is met by data alone.
 ///
-/// Of what is not met, `family` is that of the attribute inside data, or `Family::LinkInfo` of one
-/// of the list; offsets count from the beginning of each list. The error is that of `have`, else
-/// that of `want`. Does not allocate. Equal lists are validated once. Otherwise the passes over the
-/// lists are as many as in `list_unmet`, and one more over both for data, statistics and port data.
+/// Of what is not met, `family` is that of the innermost attribute that is told, or
+/// `Family::LinkInfo` of one of the list; offsets count from the beginning of each list. The error
+/// is that of `have`, else that of `want`. Does not allocate. Equal lists are validated once.
+/// Otherwise the passes over the lists are as many as in `list_unmet`, and one more over both for
+/// data, statistics and port data.
 pub fn first_unmet_of<P: DataLayer>(have: &[u8], want: &[u8]) -> Result<Option<Unmet>, ErrorIn>
     ensures answer { result ≡ unmet_answer (reading P.families have.now)
         (reading P.families want.now) (strings_unmet P.families have.now want.now) }

@@ -1,12 +1,15 @@
 //! Laws of `first_unmet`, each the contract of a function without code.
 
-ghost use Rattle.std.specs.Prelude.{◌≡◌, ◌↔◌, ℕ, Bool, IsOk, List, None, true};
+ghost use Rattle.std.specs.Prelude.{◌≡◌, ◌↔◌, ℕ, IsOk, List, None, true};
 ghost use Rattle.std.specs.List.Sorted.{IsPermutation};
-ghost use Rattle.nla_frame.specs.Attribute.{Attribute};
-ghost use Rattle.nla_frame.specs.declared.error.Family.{Family};
-ghost use Rattle.linkinfo_table.specs.Last.{attributes_of};
-ghost use Rattle.linkinfo_data.specs.Unmet.{list_unmet};
-ghost use Rattle.linkinfo.specs.Met.{DifferElsewhere, DifferInside, HasNoTypeTwice, HaveSameLasts};
+ghost use Rattle.linkinfo_table.specs.Contents.{Contents, Listed};
+ghost use Rattle.linkinfo_table.specs.Unmet.{list_unmet};
+ghost use Rattle.linkinfo.specs.Met.{
+  AttributesStay,
+  DifferElsewhere,
+  DifferInside,
+  HasNoTypeTwice,
+};
 ghost use Rattle.linkinfo.specs.Met.{IsReorderedData, IsReorderedList, ListMeets, StringMeets};
 ghost use Rattle.linkinfo.specs.Met.{nlas_of};
 ghost use Rattle.linkinfo.specs.Strings.{alike_strings, reading};
@@ -18,33 +21,34 @@ use linkinfo_data::laws::families_lawful;
 /// When a list has every attribute of another one: exactly where, of each type of `want`, flags
 /// aside, the last attribute is met by the last one of that type in `have`.
 ///
-/// An attribute inside data is met by an equal payload or an equivalent attribute (`data`). An
-/// attribute of the list is met under the same kind, or port kind, by name: by an equal payload or
-/// an equivalent attribute, and data that is a list attribute by attribute (`list`).
+/// An attribute inside data is met by an equal payload or an equivalent attribute, and one with a
+/// list of another family attribute by attribute; each attribute of a set is met by one of its
+/// type, in any order (`data`). An attribute of the list is met under the same kind, or port kind,
+/// by name: by an equal payload or an equivalent attribute, and data that is a list as in `data`
+/// (`list`).
 pub fn met_by_last<P: DataLayer>()
-    ensures data { (name : Family) (alike : Attribute → Attribute → Bool) (have want : List ℕ) →
-        (list_unmet name alike (attributes_of have) (attributes_of want) ≡ None)
-        ↔ ListMeets alike have want }
+    ensures data { (l : Listed) (inside : ℕ → Contents) (have want : List ℕ) →
+        (list_unmet l inside have want ≡ None) ↔ ListMeets l inside have want }
     ensures list { (have want : List ℕ) → (strings_unmet P.families have want ≡ None)
         ↔ StringMeets P.families have want }
 {}
 
 /// Every list is met by itself (`list`), and so is data (`data`).
 pub fn met_by_itself<P: DataLayer>()
-    ensures data { (name : Family) (alike : Attribute → Attribute → Bool) (s : List ℕ) →
-        list_unmet name alike (attributes_of s) (attributes_of s) ≡ None }
+    ensures data { (l : Listed) (inside : ℕ → Contents) (s : List ℕ) →
+        list_unmet l inside s s ≡ None }
     ensures list { (s : List ℕ) → strings_unmet P.families s s ≡ None }
 {}
 
 /// What is met stays met where other attributes are added or removed. Of data it is enough that the
-/// last attribute of each type of `want` stays (`data`). A list that meets `want` meets it still
-/// after attributes of types that `want` does not have are added or removed, anywhere (`list`). So
-/// it does after such attributes are added or removed inside data that is a list (`inside`).
+/// last attribute of each type of `want` stays, and of a set that all attributes do (`data`). A
+/// list that meets `want` meets it still after attributes of types that `want` does not have are
+/// added or removed, anywhere (`list`). So it does after such attributes are added or removed
+/// inside data that is a list (`inside`).
 pub fn stays_met<P: DataLayer>()
-    ensures data { (name : Family) (alike : Attribute → Attribute → Bool)
-        (have more want : List ℕ) → HaveSameLasts want have more →
-        list_unmet name alike (attributes_of have) (attributes_of want) ≡ None →
-        list_unmet name alike (attributes_of more) (attributes_of want) ≡ None }
+    ensures data { (l : Listed) (inside : ℕ → Contents) (have more want : List ℕ) →
+        AttributesStay l want have more →
+        list_unmet l inside have want ≡ None → list_unmet l inside more want ≡ None }
     ensures list { (have more want : List ℕ) → DifferElsewhere want have more →
         strings_unmet P.families have want ≡ None →
         strings_unmet P.families more want ≡ None }
@@ -71,10 +75,8 @@ pub fn reordering_is_met<P: DataLayer>(bytes: &[u8], other: &[u8])
     ensures permuted { HasNoTypeTwice (nlas_of bytes.now) →
         IsPermutation (nlas_of bytes.now) (nlas_of other.now) →
         IsReorderedList P.families bytes.now other.now }
-    ensures data { (name : Family) (alike : Attribute → Attribute → Bool) (p q : List ℕ) →
-        IsReorderedData p q →
-        (list_unmet name alike (attributes_of p) (attributes_of q) ≡ None)
-        × (list_unmet name alike (attributes_of q) (attributes_of p) ≡ None) }
+    ensures data { (l : Listed) (inside : ℕ → Contents) (p q : List ℕ) → IsReorderedData p q →
+        (list_unmet l inside p q ≡ None) × (list_unmet l inside q p ≡ None) }
     ensures list { IsOk (reading P.families bytes.now) →
         IsOk (reading P.families other.now) →
         IsReorderedList P.families bytes.now other.now →

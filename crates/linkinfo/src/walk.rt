@@ -149,7 +149,7 @@ impl ExactEq for LinkInfoWalk<'_> {
     ghost use Rattle.std.proofs.lemmas.Bool.Decides.{Decides-eqb};
     ghost use Rattle.nla_frame.specs.Derived.{fields_decide, two_fields};
     ghost use Rattle.nla_frame.specs.Same.{same_walk_decides};
-    ghost use Rattle.linkinfo_data.specs.Equal.{option_decides};
+    ghost use Rattle.linkinfo_table.specs.Equal.{option_decides};
     ghost use Rattle.linkinfo.specs.contracts.role.CurrentKindsExactEq.TheImpl.Laws.{
       exact-law as kinds_exact,
     };

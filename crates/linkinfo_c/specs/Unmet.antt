@@ -14,7 +14,7 @@ use Rattle.std.specs.Prelude.{
   Err,
 }
 use Rattle.nla_frame.specs.declared.error.DecodeError.{DecodeError}
-use Rattle.linkinfo_data.specs.declared.unmet.Unmet.{Unmet}
+use Rattle.linkinfo_table.specs.declared.unmet.Unmet.{Unmet}
 use Rattle.linkinfo.specs.declared.placed.ErrorIn.TheVariants.{First, Second}
 use Rattle.linkinfo.specs.declared.placed.ErrorIn.{ErrorIn}
 use Rattle.linkinfo_c.specs.declared.error.LinkinfoError.{LinkinfoError}

@@ -1,11 +1,12 @@
 -- Data and port data of each family are lawful, if the layer is.
-use Rattle.std.specs.Prelude.{refl}
+use Rattle.std.specs.Prelude.{false, refl}
 use Rattle.nla_frame.specs.declared.error.Family.TheVariants as family
 use Rattle.linkinfo_devices.specs.Macvlan.{mac_vlan_is}
 use Rattle.linkinfo_devices.specs.Macvtap.{mac_vtap_is}
 use Rattle.linkinfo_peers.specs.Netkit.{netkit_lawful}
 use Rattle.linkinfo_peers.specs.Veth.{veth_lawful}
 use Rattle.linkinfo_peers.specs.Vxcan.{vxcan_lawful}
+use Rattle.linkinfo_peers.specs.PeerRows.{peer_contained, peer_contents}
 use Rattle.linkinfo_peers.specs.PeerMembers.{netkit_members, veth_members, vxcan_members}
 use Rattle.linkinfo_data.proofs.Lawful.{ip_tunnel_is, ip_vlan_is, opaque_is}
 -- Begin: written by tables/generate from tables/kinds (imports).
@@ -27,12 +28,12 @@ use Rattle.linkinfo_data.proofs.Lawful.{wwan_is}
 -- End: written by tables/generate.
 use Rattle.linkinfo_table.specs.Layers.{Families, IsLayer, Types}
 use Rattle.linkinfo_data.specs.Layered.{types_of}
-use Rattle.linkinfo_data.specs.DeviceData.{devices_data_of, mac_vlan_lists, mac_vtap_lists}
+use Rattle.linkinfo_data.specs.DeviceData.{devices_data_of}
 use Rattle.linkinfo_data.specs.InfoData.{data_payload}
 use Rattle.linkinfo_data.specs.Lawful.{AreLawful}
 use Rattle.linkinfo_data.specs.LowerData.{lower_data_of}
 use Rattle.linkinfo_data.specs.Payloads.{IsLawful, as_bytes_is_lawful, as_first_is_lawful}
-use Rattle.linkinfo_data.specs.Payloads.{as_list_is_lawful, as_lists_is_lawful}
+use Rattle.linkinfo_data.specs.Payloads.{as_list_is_lawful}
 use Rattle.linkinfo_data.specs.PeerData.{peers_data_of}
 use Rattle.linkinfo_data.specs.Plain.{plain}
 use Rattle.linkinfo_data.specs.PortData.{port_data_of, port_data_payload}
@@ -78,11 +79,11 @@ data_lawful layer is =
           (λ xs. info.IpVlan xs) (data_payload layer) (λ _. refl) (λ x y e. cc)
       | device.IpVtap ↦ as_list_is_lawful plain.ip_vtap (ip_vlan_is family.IpVtap)
           (λ xs. info.IpVtap xs) (data_payload layer) (λ _. refl) (λ x y e. cc)
-      | device.MacVlan lists ↦ as_lists_is_lawful (plain.mac_vlan lists) (mac_vlan_is lists)
-          (mac_vlan_lists lists) (λ xs. info.MacVlan xs)
+      | device.MacVlan lists ↦ as_list_is_lawful (plain.mac_vlan lists) (mac_vlan_is lists)
+          (λ xs. info.MacVlan xs)
           (data_payload layer) (λ _. refl) (λ x y e. cc)
-      | device.MacVtap lists ↦ as_lists_is_lawful (plain.mac_vtap lists) (mac_vtap_is lists)
-          (mac_vtap_lists lists) (λ xs. info.MacVtap xs)
+      | device.MacVtap lists ↦ as_list_is_lawful (plain.mac_vtap lists) (mac_vtap_is lists)
+          (λ xs. info.MacVtap xs)
           (data_payload layer) (λ _. refl) (λ x y e. cc)
       | device.Vrf ↦ as_list_is_lawful plain.vrf vrf_is (λ xs. info.Vrf xs) (data_payload layer)
           (λ _. refl) (λ x y e. cc)
@@ -133,15 +134,18 @@ data_lawful layer is =
       | peered.Tun ↦ as_list_is_lawful layer.tun is.tun.laws (λ xs. info.Tun xs)
           (data_payload layer) (λ _. refl) (λ x y e. cc)
       | peered.Veth ↦ as_first_is_lawful (veth_members layer.peer)
-          ((veth_lawful layer.peer is.peer).laws family.Veth)
+          ((veth_lawful layer.peer is.peer).laws family.Veth peer_contents false
+          (peer_contained _ _))
           (λ x. info.Veth x) (data_payload layer) (λ _. refl) (λ x y e. cc)
       | peered.Wireguard ↦ as_list_is_lawful plain.wireguard (opaque_is family.Wireguard)
           (λ xs. info.Wireguard xs) (data_payload layer) (λ _. refl) (λ x y e. cc)
       | peered.Netkit ↦ as_list_is_lawful (netkit_members layer.peer)
-          ((netkit_lawful layer.peer is.peer).laws family.Netkit)
+          ((netkit_lawful layer.peer is.peer).laws family.Netkit peer_contents false
+          (peer_contained _ _))
           (λ xs. info.Netkit xs) (data_payload layer) (λ _. refl) (λ x y e. cc)
       | peered.Vxcan ↦ as_first_is_lawful (vxcan_members layer.peer)
-          ((vxcan_lawful layer.peer is.peer).laws family.Vxcan)
+          ((vxcan_lawful layer.peer is.peer).laws family.Vxcan peer_contents false
+          (peer_contained _ _))
           (λ x. info.Vxcan x) (data_payload layer) (λ _. refl) (λ x y e. cc)
       | peered.BatAdv ↦ as_list_is_lawful plain.bat_adv bat_adv_is (λ xs. info.BatAdv xs)
           (data_payload layer) (λ _. refl) (λ x y e. cc)

@@ -35,17 +35,14 @@ use Rattle.linkinfo_data.specs.Names.{AreNamed}
 use Rattle.linkinfo_data.specs.Names.{ErrorsName, device_name, first_errors_name, list_errors_name}
 use Rattle.linkinfo_data.specs.Names.{lower_inner, lower_name, no_name, peered_inner, peered_name}
 use Rattle.linkinfo_data.specs.Names.{port_data_inner, port_data_name, tunnel_name, under_name}
-use Rattle.linkinfo_data.specs.Payloads.{Payload}
 use Rattle.linkinfo_data.specs.PeerData.{peers_data_of}
 use Rattle.linkinfo_data.specs.Plain.{plain}
 use Rattle.linkinfo_data.specs.PortData.{port_data_of}
 use Rattle.linkinfo_data.specs.TunnelData.{tunnels_data_of}
 use Rattle.linkinfo_data.specs.declared.data.DataFamily.TheVariants as of
-use Rattle.linkinfo_data.specs.declared.data.DataFamily.{DataFamily}
 use Rattle.linkinfo_data.specs.declared.devices.DeviceFamily.TheVariants as device
 use Rattle.linkinfo_data.specs.declared.devices.DeviceFamily.{DeviceFamily}
 use Rattle.linkinfo_data.specs.declared.info_data.InfoDataOf.TheVariants as info
-use Rattle.linkinfo_data.specs.declared.info_data.InfoDataOf.{InfoDataOf}
 use Rattle.linkinfo_data.specs.declared.lower.LowerFamily.TheVariants as lower
 use Rattle.linkinfo_data.specs.declared.lower.LowerFamily.{LowerFamily}
 use Rattle.linkinfo_data.specs.declared.peers.PeeredFamily.TheVariants as peered

@@ -1,11 +1,12 @@
 -- The families of data that rows define: each is lawful, and its errors name it. The laws of
 -- macvlan, macvtap and the families with a peer are in their crates.
-use Rattle.std.specs.Prelude.{ℕ, List, [], refl}
+use Rattle.std.specs.Prelude.{ℕ, false, List, [], refl}
 use Rattle.nla_frame.specs.NlaItems.{nla_items}
 use Rattle.nla_frame.specs.declared.error.Family.TheVariants as family
 use Rattle.nla_frame.specs.declared.error.Family.{Family}
 use Rattle.linkinfo_numbers.specs.declared.tags.KindTag.{KindTag}
 use Rattle.linkinfo_table.specs.ByRows.{members_by_rows, rows_are_family, rows_name}
+use Rattle.linkinfo_table.specs.Contents.{NoList}
 use Rattle.linkinfo_table.specs.ByRows.{table_is_family, table_names}
 use Rattle.linkinfo_table.specs.Conditions.{opaque_attribute}
 use Rattle.linkinfo_table.specs.FamilyRows.{lookup_of, row_of, table_row}
@@ -225,7 +226,8 @@ wwan_names s = table_names family.Wwan (λ d. wwan.Other d) wwan_attribute wwan_
 
 pub ip_tunnel_is : (tag : KindTag) → IsFamily (plain.ip_tunnel tag)
 ip_tunnel_is tag = rows_are_family family.IpTunnel (λ d. ip_tunnel.Other d) ip_tunnel_attribute
-    (ip_tunnel_row tag) (ip_tunnel_owes tag) (λ _. refl) (λ _. 0) none_inside
+    (ip_tunnel_row tag) (ip_tunnel_owes tag) (λ _. refl) (λ _. 0) none_inside (λ _. NoList) false
+    (λ _. tt)
 
 pub ip_tunnel_names : (tag : KindTag) (s : List ℕ) →
     EachNames family.IpTunnel (values (plain.ip_tunnel tag).meaning (nla_items s))

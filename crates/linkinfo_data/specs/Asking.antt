@@ -2,13 +2,16 @@
 -- not depend on the variant that holds the value.
 use Rattle.std.specs.Prelude.{
   ℕ,
+  ◌≡◌,
   ◌+◌,
   ◌/◌,
   ◌<◌,
   ◌≤◌,
   ◌^◌,
   Bool,
+  IfSome,
   IsOk,
+  IsSome,
   List,
   Ok,
   Option,
@@ -20,6 +23,9 @@ use Rattle.nla_frame.specs.Answers.{verdict}
 use Rattle.nla_frame.specs.Attribute.{Attribute}
 use Rattle.nla_frame.specs.NlaItems.{nla_items}
 use Rattle.nla_frame.specs.declared.error.DecodeError.{DecodeError}
+use Rattle.nla_frame.specs.declared.error.Family.{Family}
+use Rattle.linkinfo_table.specs.Contents.{Contents, ListOf, NoList, listed}
+use Rattle.linkinfo_table.specs.Difference.{IsWithin}
 use Rattle.linkinfo_table.specs.Lists.{
   Measures,
   alike_pairs,
@@ -31,7 +37,11 @@ use Rattle.linkinfo_table.specs.Lists.{
   headers_of,
   values,
 }
+use Rattle.linkinfo_table.specs.Unmet.{IsUnmetWithin}
+use Rattle.linkinfo_table.specs.declared.difference.Difference.{Difference}
+use Rattle.linkinfo_table.specs.declared.unmet.Unmet.{Unmet}
 use Rattle.linkinfo_data.specs.Encoding.{HasRoom}
+use Rattle.linkinfo_data.specs.Lists.{difference_in, error_in, family_in, unmet_in}
 use Rattle.linkinfo_data.specs.Payloads.{Payload}
 
 -- of payloads, what does not depend on the variant: as in `Payload`
@@ -40,6 +50,7 @@ pub record Facts : Type 0 where
   pub headers : List ℕ → ℕ
   pub alike : List ℕ → List ℕ → Bool
   pub canonical : List ℕ → List ℕ
+  pub contents : Contents
 
 abbrev pub facts_of : {X : Type 0} → Payload X → Facts
 facts_of payload = record {
@@ -47,16 +58,19 @@ facts_of payload = record {
   headers = payload.headers;
   alike = payload.alike;
   canonical = payload.canonical;
+  contents = payload.contents;
 }
 
 -- payloads that are lists of attributes of a family
-abbrev pub list_facts : {A : Type 0} → (A → Attribute) → (Attribute → Result A DecodeError) →
-    (Attribute → ℕ) → (Attribute → Attribute → Bool) → Facts
-list_facts attribute meaning headers alike = record {
+abbrev pub list_facts : {A : Type 0} → Family → (A → Attribute) →
+    (Attribute → Result A DecodeError) → (Attribute → ℕ) → (Attribute → Attribute → Bool) →
+    (ℕ → Contents) → Bool → Facts
+list_facts family attribute meaning headers alike contents is_set = record {
   verdicts = λ p. verdict (values meaning (nla_items p));
   headers = λ p. headers_of meaning headers (nla_items p);
   alike = λ p q. alike_pairs alike (nla_items p) (nla_items q);
   canonical = λ p. canonical_list attribute meaning (nla_items p);
+  contents = ListOf (listed family meaning alike is_set) contents;
 }
 
 -- payloads of which the first attribute, of a family, is parsed
@@ -67,6 +81,7 @@ first_facts attribute meaning headers alike = record {
   headers = λ p. first_headers headers (nla_items p);
   alike = λ p q. first_alike alike (nla_items p) (nla_items q);
   canonical = λ p. canonical_first attribute meaning (nla_items p);
+  contents = NoList;
 }
 
 -- payloads that are kept as bytes
@@ -76,6 +91,7 @@ bytes_facts = record {
   headers = λ _. 0;
   alike = λ p q. bytes_eq p q;
   canonical = λ p. p;
+  contents = NoList;
 }
 
 -- whether a payload is accepted: a `usize` can count its headers
@@ -99,3 +115,26 @@ Measured facts p result =
 -- payload, and the buffer has room for it
 abbrev pub WriteReady : Facts → List ℕ → List ℕ → Type 0
 WriteReady facts p buffer = IsOk (facts.verdicts p) × HasRoom (facts.canonical p) buffer
+
+-- payloads that are lists
+abbrev pub ListReady : Facts → Type 0
+ListReady facts = IsSome (family_in facts.contents)
+
+-- the offset of the error of such a payload, if it has one
+abbrev pub ErrorFound : Facts → List ℕ → Option ℕ → Type 0
+ErrorFound facts p result =
+    (result ≡ error_in facts.contents p) × IfSome result (λ n. n ≤ length p)
+
+-- two of them that are accepted
+abbrev pub PairReady : Facts → List ℕ → List ℕ → Type 0
+PairReady facts p q = ListReady facts × IsOk (facts.verdicts p) × IsOk (facts.verdicts q)
+
+-- their first difference, and the first attribute of one that the other does not meet
+abbrev pub DifferenceFound : Facts → List ℕ → List ℕ → Option Difference → Type 0
+DifferenceFound facts p q result =
+    (result ≡ difference_in facts.contents p q) × IfSome result (IsWithin (length p) (length q))
+
+abbrev pub UnmetFound : Facts → List ℕ → List ℕ → Option Unmet → Type 0
+UnmetFound facts have want result =
+    (result ≡ unmet_in facts.contents have want)
+    × IfSome result (IsUnmetWithin (length want) (length have))

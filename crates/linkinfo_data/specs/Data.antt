@@ -1,29 +1,22 @@
 -- Data of links: what a payload means under the kind of the link.
-use Rattle.std.specs.Prelude.{ℕ, Option, None, Some}
-use Rattle.std.specs.Option.{option_map}
+use Rattle.std.specs.Prelude.{refl}
 use Rattle.linkinfo_numbers.specs.declared.tags.KindTag.{KindTag}
 use Rattle.linkinfo_numbers.specs.declared.tags.KindTag.TheVariants as tag
 use Rattle.linkinfo_data.specs.declared.data.DataFamily.{DataFamily}
 use Rattle.linkinfo_data.specs.declared.data.DataFamily.TheVariants as of
 use Rattle.linkinfo_data.specs.declared.devices.DeviceFamily.TheVariants as device
-use Rattle.linkinfo_data.specs.declared.devices.DeviceFamily.{DeviceFamily}
 use Rattle.linkinfo_data.specs.declared.lower.LowerFamily.TheVariants as lower
 use Rattle.linkinfo_data.specs.declared.peers.PeeredFamily.TheVariants as peered
 use Rattle.linkinfo_data.specs.declared.tunnels.TunnelFamily.TheVariants as tunnel
 use Rattle.linkinfo_data.specs.Layered.{DataOf, types_of}
 use Rattle.linkinfo_data.specs.declared.info_data.InfoDataOf.TheVariants as info
-use Rattle.linkinfo_data.specs.DeviceData.{
-  devices_data_of,
-  devices_known,
-  devices_nest,
-  devices_nested_in,
-}
+use Rattle.linkinfo_data.specs.DeviceData.{devices_data_of, devices_known}
 use Rattle.linkinfo_table.specs.Layers.{Families, Types}
-use Rattle.linkinfo_data.specs.Listed.{IsKnown, IsNested, bytes_are_known}
-use Rattle.linkinfo_data.specs.LowerData.{lower_data_of, lower_known, lower_nest}
+use Rattle.linkinfo_data.specs.Known.{IsKnown}
+use Rattle.linkinfo_data.specs.LowerData.{lower_data_of, lower_known}
 use Rattle.linkinfo_data.specs.Payloads.{Payload, as_bytes}
-use Rattle.linkinfo_data.specs.PeerData.{peers_data_of, peers_known, peers_nest}
-use Rattle.linkinfo_data.specs.TunnelData.{tunnels_data_of, tunnels_known, tunnels_nest}
+use Rattle.linkinfo_data.specs.PeerData.{peers_data_of, peers_known}
+use Rattle.linkinfo_data.specs.TunnelData.{tunnels_data_of, tunnels_known}
 
 -- the family of a kind's data
 abbrev pub family_of : KindTag → DataFamily
@@ -84,28 +77,4 @@ data_known layer (of.Lower f) = lower_known layer f
 data_known layer (of.Device f) = devices_known (types_of layer) f
 data_known layer (of.Tunnel f) = tunnels_known (types_of layer) f
 data_known layer (of.Peered f) = peers_known layer f
-data_known layer of.Raw = bytes_are_known (λ bytes. info.Other bytes)
-
--- the attributes that hold lists, and the family of these lists
-abbrev pub as_device : ℕ × DeviceFamily → ℕ × DataFamily
-as_device nest = (nest.0, of.Device nest.1)
-
-abbrev pub data_nested_in : DataFamily → Option (ℕ × DataFamily)
-data_nested_in (of.Device f) = option_map as_device (devices_nested_in f)
-data_nested_in _ = None
-
-device_nests : {t : Types} (layer : Families t) (f : DeviceFamily)
-    (nest : Option (ℕ × DeviceFamily)) →
-    IsNested (devices_data_of (types_of layer)) f nest →
-    IsNested (data_of layer) (of.Device f) (option_map as_device nest)
-device_nests layer f None law = law
-device_nests layer f (Some nest) law = law
-
-pub data_nest : {t : Types} (layer : Families t) (f : DataFamily) →
-    IsNested (data_of layer) f (data_nested_in f)
-data_nest layer (of.Lower f) = lower_nest layer f
-data_nest layer (of.Device f) =
-    device_nests layer f (devices_nested_in f) (devices_nest (types_of layer) f)
-data_nest layer (of.Tunnel f) = tunnels_nest (types_of layer) f
-data_nest layer (of.Peered f) = peers_nest layer f
-data_nest layer of.Raw = tt {0}
+data_known layer of.Raw = λ p. refl

@@ -3,15 +3,13 @@ pub mod BytesLayer
 pub mod Conditions
 pub mod Data
 pub mod DeviceData
-pub mod Difference
 pub mod Encoding
-pub mod Equal
 pub mod InfoData
+pub mod Known
+pub mod Lawful
 pub mod LayerVariants
 pub mod Layered
-pub mod Lawful
-pub mod Listed
-pub mod Listing
+pub mod Lists
 pub mod Located
 pub mod LowerData
 pub mod Names
@@ -21,4 +19,3 @@ pub mod PeerLayer
 pub mod Plain
 pub mod PortData
 pub mod TunnelData
-pub mod Unmet

@@ -1,12 +1,11 @@
 -- Data of bridge, vlan, bond, hsr, can and dsa links: what payloads mean under each family, and the
 -- variant that holds it.
-use Rattle.std.specs.Prelude.{None, refl}
 use Rattle.linkinfo_table.specs.Layers.{Families, Types}
 use Rattle.linkinfo_data.specs.Layered.{DataOf}
 use Rattle.linkinfo_data.specs.declared.info_data.InfoDataOf.TheVariants as info
 use Rattle.linkinfo_data.specs.declared.lower.LowerFamily.{LowerFamily}
 use Rattle.linkinfo_data.specs.declared.lower.LowerFamily.TheVariants as of
-use Rattle.linkinfo_data.specs.Listed.{IsKnown, IsNested, list_is_known}
+use Rattle.linkinfo_data.specs.Known.{IsKnown, list_is_known}
 use Rattle.linkinfo_data.specs.Payloads.{Payload, as_list}
 
 abbrev pub lower_data_of : {t : Types} → Families t → LowerFamily → Payload (DataOf t)
@@ -31,9 +30,3 @@ lower_known layer of.Can = list_is_known layer.can (λ xs. info.Can xs)
 lower_known layer of.Dsa = list_is_known layer.dsa (λ xs. info.Dsa xs)
 
 -- End: written by tables/generate.
-
--- no attribute holds a list
-pub lower_nest : {t : Types} (layer : Families t) (f : LowerFamily) →
-    IsNested (lower_data_of layer) f None
-lower_nest layer of.Bridge = refl
-lower_nest layer _ = refl

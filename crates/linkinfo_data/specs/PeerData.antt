@@ -1,13 +1,12 @@
 -- Data of veth, vxcan, netkit, tun, wireguard, batadv, wwan and pfcp links: what payloads mean
 -- under each family, and the variant that holds it.
-use Rattle.std.specs.Prelude.{None, refl}
 use Rattle.linkinfo_peers.specs.PeerMembers.{netkit_members, veth_members, vxcan_members}
 use Rattle.linkinfo_table.specs.Layers.{Families, Types}
 use Rattle.linkinfo_data.specs.Layered.{DataOf}
 use Rattle.linkinfo_data.specs.declared.info_data.InfoDataOf.TheVariants as info
 use Rattle.linkinfo_data.specs.declared.peers.PeeredFamily.{PeeredFamily}
 use Rattle.linkinfo_data.specs.declared.peers.PeeredFamily.TheVariants as of
-use Rattle.linkinfo_data.specs.Listed.{IsKnown, IsNested, first_is_known, list_is_known}
+use Rattle.linkinfo_data.specs.Known.{IsKnown, first_is_known, list_is_known}
 use Rattle.linkinfo_data.specs.Payloads.{Payload, as_list, as_first}
 use Rattle.linkinfo_data.specs.Plain.{plain}
 
@@ -37,10 +36,3 @@ peers_known layer of.Wwan = list_is_known plain.wwan (λ xs. info.Wwan xs)
 peers_known layer of.Pfcp = list_is_known plain.pfcp (λ xs. info.Pfcp xs)
 
 -- End: written by tables/generate.
-
--- no attribute holds a list
-pub peers_nest : {t : Types} (layer : Families t) (f : PeeredFamily) →
-    IsNested (peers_data_of layer) f None
-peers_nest layer of.Veth = tt {0}
-peers_nest layer of.Vxcan = tt {0}
-peers_nest layer _ = refl

@@ -1,15 +1,14 @@
 -- Data of ports: what a payload means under the port kind.
-use Rattle.std.specs.Prelude.{ℕ, List, map}
+use Rattle.std.specs.Prelude.{ℕ, List, map, refl}
 use Rattle.nla_frame.specs.Attribute.{Attribute, list_string}
 use Rattle.linkinfo_numbers.specs.declared.tags.PortTag.{PortTag}
 use Rattle.linkinfo_numbers.specs.declared.tags.PortTag.TheVariants as tag
-use Rattle.std.specs.Prelude.{None, refl}
 use Rattle.linkinfo_table.specs.Layers.{Families, Types}
 use Rattle.linkinfo_data.specs.Layered.{PortDataOf}
 use Rattle.linkinfo_data.specs.declared.port_data.InfoPortDataOf.TheVariants as info
 use Rattle.linkinfo_data.specs.declared.port_data.PortFamily.{PortFamily}
 use Rattle.linkinfo_data.specs.declared.port_data.PortFamily.TheVariants as of
-use Rattle.linkinfo_data.specs.Listed.{IsKnown, IsNested, bytes_are_known, list_is_known}
+use Rattle.linkinfo_data.specs.Known.{IsKnown, list_is_known}
 use Rattle.linkinfo_data.specs.Payloads.{Payload, as_list, as_bytes}
 use Rattle.linkinfo_data.specs.Plain.{plain}
 
@@ -47,10 +46,4 @@ port_known layer of.Bond = list_is_known layer.bond_port (λ xs. info.BondPort x
 port_known layer of.Bridge = list_is_known layer.bridge_port (λ xs. info.BridgePort xs)
 port_known layer of.Vrf = list_is_known plain.vrf_port (λ xs. info.VrfPort xs)
 port_known layer of.Team = list_is_known plain.team_port (λ xs. info.TeamPort xs)
-port_known layer of.Raw = bytes_are_known (λ bytes. info.Other bytes)
-
--- no attribute holds a list
-pub port_nest : {t : Types} (layer : Families t) (f : PortFamily) →
-    IsNested (port_data_of layer) f None
-port_nest layer of.Raw = tt {0}
-port_nest layer _ = refl
+port_known layer of.Raw = λ p. refl

@@ -1,11 +1,10 @@
 -- Data of tunnels: what payloads mean under each family, and the variant that holds it.
-use Rattle.std.specs.Prelude.{None, refl}
 use Rattle.linkinfo_table.specs.Layers.{Types}
 use Rattle.linkinfo_data.specs.Layered.{DataOf}
 use Rattle.linkinfo_data.specs.declared.info_data.InfoDataOf.TheVariants as info
 use Rattle.linkinfo_data.specs.declared.tunnels.TunnelFamily.{TunnelFamily}
 use Rattle.linkinfo_data.specs.declared.tunnels.TunnelFamily.TheVariants as of
-use Rattle.linkinfo_data.specs.Listed.{IsKnown, IsNested, list_is_known}
+use Rattle.linkinfo_data.specs.Known.{IsKnown, list_is_known}
 use Rattle.linkinfo_data.specs.Payloads.{Payload, as_list}
 use Rattle.linkinfo_data.specs.Plain.{plain}
 
@@ -46,9 +45,3 @@ tunnels_known t of.ErSpan = list_is_known plain.gre (λ xs. info.ErSpan xs)
 tunnels_known t of.Ip6ErSpan = list_is_known plain.gre6 (λ xs. info.Ip6ErSpan xs)
 
 -- End: written by tables/generate.
-
--- no attribute holds a list
-pub tunnels_nest : (t : Types) (f : TunnelFamily) →
-    IsNested (tunnels_data_of t) f None
-tunnels_nest t (of.IpTunnel tag) = refl
-tunnels_nest t _ = refl

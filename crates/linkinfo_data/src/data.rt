@@ -1,13 +1,7 @@
 //! The family of a kind's data, and data parsed, validated, compared and written by family.
 
 ghost use Rattle.std.specs.Prelude.{◌≡◌};
-ghost use Rattle.linkinfo_data.specs.Data.{
-  data_known,
-  data_nest,
-  data_nested_in,
-  data_of,
-  family_of,
-};
+ghost use Rattle.linkinfo_data.specs.Data.{data_known, data_of, family_of};
 
 use crate::ask::Ask;
 use crate::devices::DeviceFamily;
@@ -18,7 +12,7 @@ use crate::payload_family::PayloadFamily;
 use crate::peers::PeeredFamily;
 use crate::tunnels::TunnelFamily;
 use linkinfo_numbers::KindTag;
-use nla_frame::{DecodeError, ExactEq, Family, HeaderCount};
+use nla_frame::{DecodeError, ExactEq, HeaderCount};
 use std::alloc::Global;
 
 /// The family of the attributes in `IFLA_INFO_DATA`, which the kind of the link chooses.
@@ -115,22 +109,6 @@ impl<P: DataLayer> PayloadFamily<InfoDataOf<P>> for DataFamily {
     ghost data_of = { data_of P.families };
 
     ghost known = { data_known P.families };
-
-    ghost nested_in = { data_nested_in };
-
-    ghost nests = { data_nest P.families };
-
-    fn listing(self) -> Option<Family> {
-        P::data_listing(self)
-    }
-
-    fn nested(self) -> Option<(u16, Self)> {
-        let DataFamily::Device(family) = self else {
-            return None;
-        };
-        let (kind, inner) = PayloadFamily::<InfoDataOf<P>>::nested(family)?;
-        Some((kind, DataFamily::Device(inner)))
-    }
 
     fn read(
         self,

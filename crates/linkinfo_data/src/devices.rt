@@ -1,12 +1,7 @@
 //! Data of ipvlan, ipvtap, macvlan, macvtap, vrf, ipoib, xfrm, macsec and rmnet links.
 
 ghost use Rattle.linkinfo_data.specs.Layered.{types_of};
-ghost use Rattle.linkinfo_data.specs.DeviceData.{
-  devices_data_of,
-  devices_known,
-  devices_nest,
-  devices_nested_in,
-};
+ghost use Rattle.linkinfo_data.specs.DeviceData.{devices_data_of, devices_known};
 
 use crate::ask::Ask;
 use crate::calls::{ask, read};
@@ -18,9 +13,8 @@ use linkinfo_devices::{
     InfoXfrm,
 };
 // End: written by tables/generate.
-use linkinfo_devices::{LIST_TYPE, MOST_LISTS};
 use linkinfo_table::{LayerFamilies, LinkLayer};
-use nla_frame::{DecodeError, ExactEq, Family, HeaderCount};
+use nla_frame::{DecodeError, ExactEq, HeaderCount};
 use std::alloc::Global;
 
 /// The families of data of ipvlan, ipvtap, macvlan, macvtap, vrf, ipoib, xfrm, macsec and rmnet
@@ -80,40 +74,6 @@ impl<P: LinkLayer> PayloadFamily<InfoDataOf<P>> for DeviceFamily {
     ghost data_of = { λ family. devices_data_of (types_of ⟦<P as LayerFamilies>⟧.families) family };
 
     ghost known = { λ family. devices_known (types_of ⟦<P as LayerFamilies>⟧.families) family };
-
-    ghost nested_in = { devices_nested_in };
-
-    ghost nests = { λ family. devices_nest (types_of ⟦<P as LayerFamilies>⟧.families) family };
-
-    fn listing(self) -> Option<Family> {
-        match self {
-            // Begin: written by tables/generate from tables/kinds (listing).
-            DeviceFamily::IpVlan => Some(Family::IpVlan),
-            DeviceFamily::IpVtap => Some(Family::IpVtap),
-            DeviceFamily::MacVlan(_) => Some(Family::MacVlan),
-            DeviceFamily::MacVtap(_) => Some(Family::MacVtap),
-            DeviceFamily::Vrf => Some(Family::Vrf),
-            DeviceFamily::Ipoib => Some(Family::Ipoib),
-            DeviceFamily::Xfrm => Some(Family::Xfrm),
-            DeviceFamily::MacSec => Some(Family::MacSec),
-            DeviceFamily::RmNet => Some(Family::RmNet),
-            // End: written by tables/generate.
-        }
-    }
-
-    fn nested(self) -> Option<(u16, Self)> {
-        match self {
-            DeviceFamily::MacVlan(lists) if lists < MOST_LISTS => Some((
-                LIST_TYPE,
-                DeviceFamily::MacVlan(lists + 1),
-            )),
-            DeviceFamily::MacVtap(lists) if lists < MOST_LISTS => Some((
-                LIST_TYPE,
-                DeviceFamily::MacVtap(lists + 1),
-            )),
-            _ => None,
-        }
-    }
 
     fn read(
         self,

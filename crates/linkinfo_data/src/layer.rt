@@ -12,7 +12,6 @@ ghost use Rattle.linkinfo_data.specs.Data.{data_of};
 ghost use Rattle.linkinfo_data.specs.Encoding.{HasRoom, IsFitLen};
 ghost use Rattle.linkinfo_data.specs.InfoData.{data_payload};
 ghost use Rattle.linkinfo_data.specs.Layered.{DataOf, PortDataOf, types_of};
-ghost use Rattle.linkinfo_data.specs.Listing.{family_in};
 ghost use Rattle.linkinfo_data.specs.PortData.{port_data_of, port_data_payload};
 
 use crate::ask::Ask;
@@ -24,8 +23,8 @@ use crate::payload_family::PayloadFamily;
 use crate::port_data::{InfoPortDataOf, PortFamily};
 use linkinfo_devices::InfoVrfPort;
 use linkinfo_peers::InfoTeamPort;
-use linkinfo_table::{LayerFamilies, LinkFamily, LinkLayer};
-use nla_frame::{Bytes, DecodeError, Family, HeaderCount};
+use linkinfo_table::{LayerFamilies, LinkLayer};
+use nla_frame::{Bytes, DecodeError, HeaderCount};
 use std::alloc::Global;
 
 /// A layer, with the calls on data and port data of its families. Every `LinkLayer` that is `Eq`,
@@ -47,10 +46,6 @@ pub trait DataLayer: LinkLayer + Eq + Sized {
       BondPort = Self.BondPort;
       BridgePort = Self.BridgePort;
     }) };
-
-    /// The name of the family of the attributes in data of a family, or `None` if it is no list.
-    fn data_listing(family: DataFamily) -> Option<Family>
-        ensures { result ≡ family_in (data_of families family).listing };
 
     /// Parses a payload as data of a family, as `PayloadFamily::read` does.
     fn read_data(
@@ -85,11 +80,6 @@ pub trait DataLayer: LinkLayer + Eq + Sized {
     fn write_data(value: &InfoDataOf<Self>, buffer: &mut [u8]) -> usize
         requires { HasRoom (data_payload families value.now) buffer.old }
         ensures { Writes (data_payload families value.now) buffer.old buffer.new result };
-
-    /// The name of the family of the attributes in port data of a family, or `None` if it is no
-    /// list.
-    fn port_data_listing(family: PortFamily) -> Option<Family>
-        ensures { result ≡ family_in (port_data_of families family).listing };
 
     /// Parses a payload as port data of a family, as `PayloadFamily::read` does.
     fn read_port_data(
@@ -245,34 +235,24 @@ impl<L: LinkLayer + Eq> DataLayer for L {
     ghost is_layer = { record {
       peer = L.Peer.LinkPeer.lawful;
       bond = supplied_family L.Bond.LinkFamily.own L.Bond.Nla.attribute
-          L.Bond.looked_up L.Bond.LinkFamily.lawful tt L.one_type.bond_type;
+          L.Bond.looked_up L.Bond.LinkFamily.lawful tt;
       bridge = supplied_family L.Bridge.LinkFamily.own L.Bridge.Nla.attribute
-          L.Bridge.looked_up L.Bridge.LinkFamily.lawful tt L.one_type.bridge_type;
+          L.Bridge.looked_up L.Bridge.LinkFamily.lawful tt;
       vlan = supplied_family L.Vlan.LinkFamily.own L.Vlan.Nla.attribute
-          L.Vlan.looked_up L.Vlan.LinkFamily.lawful tt L.one_type.vlan_type;
+          L.Vlan.looked_up L.Vlan.LinkFamily.lawful tt;
       can = supplied_family L.Can.LinkFamily.own L.Can.Nla.attribute
-          L.Can.looked_up L.Can.LinkFamily.lawful tt L.one_type.can_type;
+          L.Can.looked_up L.Can.LinkFamily.lawful tt;
       hsr = supplied_family L.Hsr.LinkFamily.own L.Hsr.Nla.attribute
-          L.Hsr.looked_up L.Hsr.LinkFamily.lawful tt L.one_type.hsr_type;
+          L.Hsr.looked_up L.Hsr.LinkFamily.lawful tt;
       dsa = supplied_family L.Dsa.LinkFamily.own L.Dsa.Nla.attribute
-          L.Dsa.looked_up L.Dsa.LinkFamily.lawful tt L.one_type.dsa_type;
+          L.Dsa.looked_up L.Dsa.LinkFamily.lawful tt;
       tun = supplied_family L.Tun.LinkFamily.own L.Tun.Nla.attribute
-          L.Tun.looked_up L.Tun.LinkFamily.lawful tt L.one_type.tun_type;
+          L.Tun.looked_up L.Tun.LinkFamily.lawful tt;
       bond_port = supplied_family L.BondPort.LinkFamily.own L.BondPort.Nla.attribute
-          L.BondPort.looked_up L.BondPort.LinkFamily.lawful tt L.one_type.bond_port_type;
+          L.BondPort.looked_up L.BondPort.LinkFamily.lawful tt;
       bridge_port = supplied_family L.BridgePort.LinkFamily.own L.BridgePort.Nla.attribute
-          L.BridgePort.looked_up L.BridgePort.LinkFamily.lawful tt L.one_type.bridge_port_type;
+          L.BridgePort.looked_up L.BridgePort.LinkFamily.lawful tt;
     } };
-
-    fn data_listing(family: DataFamily) -> Option<Family> {
-        match family {
-            DataFamily::Lower(family) => PayloadFamily::<InfoDataOf<L>>::listing(family),
-            DataFamily::Device(family) => PayloadFamily::<InfoDataOf<L>>::listing(family),
-            DataFamily::Tunnel(family) => PayloadFamily::<InfoDataOf<L>>::listing(family),
-            DataFamily::Peered(family) => PayloadFamily::<InfoDataOf<L>>::listing(family),
-            DataFamily::Raw => None,
-        }
-    }
 
     fn read_data(
         family: DataFamily,
@@ -319,16 +299,6 @@ impl<L: LinkLayer + Eq> DataLayer for L {
 
     fn write_data(value: &InfoDataOf<L>, buffer: &mut [u8]) -> usize {
         value.encode(Write, buffer)
-    }
-
-    fn port_data_listing(family: PortFamily) -> Option<Family> {
-        match family {
-            PortFamily::Bond => Some(<L::BondPort as LinkFamily>::FAMILY),
-            PortFamily::Bridge => Some(<L::BridgePort as LinkFamily>::FAMILY),
-            PortFamily::Vrf => Some(Family::Vrf),
-            PortFamily::Team => Some(Family::TeamPort),
-            PortFamily::Raw => None,
-        }
     }
 
     fn read_port_data(

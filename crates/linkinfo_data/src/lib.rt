@@ -6,7 +6,6 @@ mod ask;
 mod calls;
 mod data;
 mod devices;
-mod difference;
 mod encode;
 mod families;
 mod info_data;
@@ -18,20 +17,21 @@ mod peers;
 mod port_data;
 mod reading;
 mod tunnels;
-mod unmet;
 
-pub use ask::{Ask, Check, Measure, Same, WriteCanonical};
+pub use ask::{
+    Ask, Check, FindDifference, FindError, FindUnmet, Measure, NameFamily, Same, WriteCanonical,
+};
 pub use data::{DataFamily, family_of};
 pub use devices::DeviceFamily;
-pub use difference::{Difference, list_difference, list_error};
 pub use families::{Plain, PlainFamilies};
 pub use info_data::{InfoData, InfoDataOf};
 pub use layer::DataLayer;
+pub use linkinfo_table::{Difference, Unmet};
 pub use lower::LowerFamily;
 pub use payload_family::{
-    PayloadFamily, check_payload, measure_payload, same_payloads, write_canonical_payload,
+    PayloadFamily, check_payload, list_difference, list_error, list_unmet, measure_payload,
+    same_payloads, write_canonical_payload,
 };
 pub use peers::PeeredFamily;
 pub use port_data::{InfoPortData, InfoPortDataOf, PortFamily, port_family_of};
 pub use tunnels::TunnelFamily;
-pub use unmet::{Unmet, UnmetAt, earlier, list_unmet};

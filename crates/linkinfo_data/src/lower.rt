@@ -1,14 +1,13 @@
 //! Data of bridge, vlan, bond, hsr, can and dsa links.
 
-ghost use Rattle.std.specs.Prelude.{None};
-ghost use Rattle.linkinfo_data.specs.LowerData.{lower_data_of, lower_known, lower_nest};
+ghost use Rattle.linkinfo_data.specs.LowerData.{lower_data_of, lower_known};
 
 use crate::ask::Ask;
 use crate::calls::{ask, read};
 use crate::info_data::InfoDataOf;
 use crate::payload_family::PayloadFamily;
-use linkinfo_table::{LayerFamilies, LinkFamily, LinkLayer};
-use nla_frame::{DecodeError, ExactEq, Family, HeaderCount};
+use linkinfo_table::{LayerFamilies, LinkLayer};
+use nla_frame::{DecodeError, ExactEq, HeaderCount};
 use std::alloc::Global;
 
 /// The families of data of bridge, vlan, bond, hsr, can and dsa links, which the layer supplies.
@@ -56,27 +55,6 @@ impl<P: LinkLayer> PayloadFamily<InfoDataOf<P>> for LowerFamily {
     ghost data_of = { λ family. lower_data_of ⟦<P as LayerFamilies>⟧.families family };
 
     ghost known = { λ family. lower_known ⟦<P as LayerFamilies>⟧.families family };
-
-    ghost nested_in = { λ _. None };
-
-    ghost nests = { λ family. lower_nest ⟦<P as LayerFamilies>⟧.families family };
-
-    fn listing(self) -> Option<Family> {
-        match self {
-            // Begin: written by tables/generate from tables/kinds (listing).
-            LowerFamily::Bridge => Some(<P::Bridge as LinkFamily>::FAMILY),
-            LowerFamily::Vlan => Some(<P::Vlan as LinkFamily>::FAMILY),
-            LowerFamily::Bond => Some(<P::Bond as LinkFamily>::FAMILY),
-            LowerFamily::Hsr => Some(<P::Hsr as LinkFamily>::FAMILY),
-            LowerFamily::Can => Some(<P::Can as LinkFamily>::FAMILY),
-            LowerFamily::Dsa => Some(<P::Dsa as LinkFamily>::FAMILY),
-            // End: written by tables/generate.
-        }
-    }
-
-    fn nested(self) -> Option<(u16, Self)> {
-        None
-    }
 
     fn read(
         self,

@@ -2,8 +2,6 @@
 
 ghost use Rattle.std.specs.Prelude.{
   ◌≡◌,
-  ℕ,
-  Option,
   ◌+◌,
   ◌*◌,
   ◌/◌,
@@ -11,20 +9,27 @@ ghost use Rattle.std.specs.Prelude.{
   ◌≤◌,
   ◌^◌,
   ◌++◌,
+  IfSome,
   IsOk,
+  IsSome,
   drop,
   length,
 };
 ghost use Rattle.nla_frame.specs.Answers.{verdict};
 ghost use Rattle.nla_frame.specs.Writing.{Writes};
 ghost use Rattle.linkinfo_table.specs.Calls.{Checks, Compares, Reads};
+ghost use Rattle.linkinfo_table.specs.Difference.{IsWithin};
 ghost use Rattle.linkinfo_table.specs.Lists.{Measures};
+ghost use Rattle.linkinfo_table.specs.Unmet.{IsUnmetWithin};
 ghost use Rattle.linkinfo_data.specs.Asking.{facts_of};
-ghost use Rattle.linkinfo_data.specs.Listed.{IsKnown, IsNested};
-ghost use Rattle.linkinfo_data.specs.Listing.{family_in};
+ghost use Rattle.linkinfo_data.specs.Known.{IsKnown};
+ghost use Rattle.linkinfo_data.specs.Lists.{difference_in, error_in, family_in, unmet_in};
 ghost use Rattle.linkinfo_data.specs.Payloads.{Payload};
 
-use crate::ask::{Ask, Check, Measure, Same, WriteCanonical};
+use crate::ask::{
+    Ask, Check, FindDifference, FindError, FindUnmet, Measure, NameFamily, Same, WriteCanonical,
+};
+use linkinfo_table::{Difference, Unmet};
 use nla_frame::{DecodeError, Family, HeaderCount};
 use std::alloc::Global;
 
@@ -33,19 +38,6 @@ use std::alloc::Global;
 pub trait PayloadFamily<D: Drop>: Copy {
     /// What payloads mean under each choice.
     ghost data_of: { Self → Payload D };
-
-    /// The type of the attributes that hold lists, and the family of these lists.
-    ghost nested_in: { Self → Option (ℕ × Self) };
-
-    /// The name of the family of the attributes in a payload, or `None` if payloads are not lists
-    /// of attributes.
-    fn listing(self) -> Option<Family>
-        ensures { result ≡ family_in (data_of self).listing };
-
-    /// The type of the attributes that hold lists of attributes in turn, and the family of these
-    /// lists, or `None` if no attribute holds one.
-    fn nested(self) -> Option<(u16, Self)>
-        ensures { result ≡ nested_in self };
 
     /// Parses a payload.
     ///
@@ -64,12 +56,16 @@ pub trait PayloadFamily<D: Drop>: Copy {
         ensures { Q.answered (facts_of (data_of self)) question count.old count.new buffer.old
             buffer.new result };
 
-    /// Validating a payload gives the verdict on what it means. A list is accepted, and is
-    /// equivalent to another list, attribute by attribute.
-    ghost known: { (family : Self) → IsKnown (data_of family) };
+    /// The name of the family of the attributes in a payload, or `None` if payloads are not lists
+    /// of attributes.
+    fn listing(self) -> Option<Family>
+        ensures { result ≡ family_in (data_of self).contents }
+    {
+        self.ask(NameFamily, &mut HeaderCount::new(), &mut [])
+    }
 
-    /// Which attributes hold lists, and of which family these are.
-    ghost nests: { (family : Self) → IsNested data_of family (nested_in family) };
+    /// Validating a payload gives the verdict on what it means.
+    ghost known: { (family : Self) → IsKnown (data_of family) };
 }
 
 /// Validates a payload: returns `Ok` if `read` accepts it, otherwise the error of the payload.
@@ -139,4 +135,62 @@ pub fn write_canonical_payload<D: Drop, F: PayloadFamily<D>>(
     ensures { Writes ((F.data_of family).canonical payload.now) buffer.old buffer.new result }
 {
     family.ask(WriteCanonical { payload }, &mut HeaderCount::new(), buffer)
+}
+
+/// Returns the offset, in bytes from the beginning of a payload, of the innermost attribute that
+/// has the payload's error, in lists at any depth, or `None` if the payload is accepted.
+///
+/// If a header is rejected, the offset is that of the header. Each header is examined at most
+/// twice. Does not allocate. Requires that payloads of this family are lists (`listing`).
+pub fn list_error<D: Drop, F: PayloadFamily<D>>(family: F, payload: &[u8]) -> Option<usize>
+    requires { IsSome (family_in (F.data_of family).contents) }
+    ensures error { result ≡ error_in (F.data_of family).contents payload.now }
+    ensures within { IfSome result (λ n. n ≤ length payload.now) }
+{
+    family.ask(FindError { payload }, &mut HeaderCount::new(), &mut [])
+}
+
+/// Returns the first pair of attributes in which two accepted payloads differ, or `None` if the
+/// payloads are equivalent.
+///
+/// Two attributes that contain lists, of whatever family, differ if these lists do: the result is
+/// then the first pair in these. Offsets are in bytes from the beginning of each payload. Each
+/// header is examined at most twice. Does not allocate. Requires that both payloads are accepted,
+/// and that payloads of this family are lists (`listing`).
+pub fn list_difference<D: Drop, F: PayloadFamily<D>>(
+    family: F,
+    a: &[u8],
+    b: &[u8],
+) -> Option<Difference>
+    requires listed { IsSome (family_in (F.data_of family).contents) }
+    requires first { IsOk ((F.data_of family).means a.now) }
+    requires second { IsOk ((F.data_of family).means b.now) }
+    ensures difference { result ≡ difference_in (F.data_of family).contents a.now b.now }
+    ensures within { IfSome result (IsWithin (length a.now) (length b.now)) }
+{
+    family.ask(FindDifference { a, b }, &mut HeaderCount::new(), &mut [])
+}
+
+/// Returns the first attribute of `want` that `have` does not meet, of two accepted payloads, or
+/// `None` if it meets all of them.
+///
+/// Of several attributes of a type the last one counts, as in the kernel. It is met where the last
+/// attribute of its type in `have` has an equal payload or is equivalent; flags of the type do not
+/// matter. An attribute that contains a list of another family is met where that list is: the
+/// result is then the first attribute that is not met in it. In a list that is a set, each
+/// attribute is met by one of its type, in any order. A list of the family itself is met as a
+/// whole. Offsets count from the beginning of each payload. Does not allocate. Requires that both
+/// payloads are accepted, and that payloads of this family are lists (`listing`).
+pub fn list_unmet<D: Drop, F: PayloadFamily<D>>(
+    family: F,
+    have: &[u8],
+    want: &[u8],
+) -> Option<Unmet>
+    requires listed { IsSome (family_in (F.data_of family).contents) }
+    requires have { IsOk ((F.data_of family).means have.now) }
+    requires want { IsOk ((F.data_of family).means want.now) }
+    ensures unmet { result ≡ unmet_in (F.data_of family).contents have.now want.now }
+    ensures within { IfSome result (IsUnmetWithin (length want.now) (length have.now)) }
+{
+    family.ask(FindUnmet { have, want }, &mut HeaderCount::new(), &mut [])
 }

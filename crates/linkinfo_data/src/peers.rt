@@ -1,7 +1,6 @@
 //! Data of veth, vxcan, netkit, tun, wireguard, batadv, wwan and pfcp links.
 
-ghost use Rattle.std.specs.Prelude.{None};
-ghost use Rattle.linkinfo_data.specs.PeerData.{peers_data_of, peers_known, peers_nest};
+ghost use Rattle.linkinfo_data.specs.PeerData.{peers_data_of, peers_known};
 
 use crate::ask::Ask;
 use crate::calls::{ask, read};
@@ -12,8 +11,8 @@ use linkinfo_peers::{
     InfoBatAdv, InfoNetkitOf, InfoPfcp, InfoVethOf, InfoVxcanOf, InfoWireguard, InfoWwan,
 };
 // End: written by tables/generate.
-use linkinfo_table::{LayerFamilies, LinkFamily, LinkLayer};
-use nla_frame::{DecodeError, ExactEq, Family, HeaderCount};
+use linkinfo_table::{LayerFamilies, LinkLayer};
+use nla_frame::{DecodeError, ExactEq, HeaderCount};
 use std::alloc::Global;
 
 /// The families of data of links with a peer (veth, vxcan and netkit), and of tun, wireguard,
@@ -74,29 +73,6 @@ impl<P: LinkLayer> PayloadFamily<InfoDataOf<P>> for PeeredFamily {
     ghost data_of = { λ family. peers_data_of ⟦<P as LayerFamilies>⟧.families family };
 
     ghost known = { λ family. peers_known ⟦<P as LayerFamilies>⟧.families family };
-
-    ghost nested_in = { λ _. None };
-
-    ghost nests = { λ family. peers_nest ⟦<P as LayerFamilies>⟧.families family };
-
-    fn listing(self) -> Option<Family> {
-        match self {
-            // Begin: written by tables/generate from tables/kinds (listing).
-            PeeredFamily::Tun => Some(<P::Tun as LinkFamily>::FAMILY),
-            PeeredFamily::Veth => None,
-            PeeredFamily::Wireguard => Some(Family::Wireguard),
-            PeeredFamily::Netkit => Some(Family::Netkit),
-            PeeredFamily::Vxcan => None,
-            PeeredFamily::BatAdv => Some(Family::BatAdv),
-            PeeredFamily::Wwan => Some(Family::Wwan),
-            PeeredFamily::Pfcp => Some(Family::Pfcp),
-            // End: written by tables/generate.
-        }
-    }
-
-    fn nested(self) -> Option<(u16, Self)> {
-        None
-    }
 
     fn read(
         self,

@@ -1,6 +1,6 @@
 //! The data of a port: `IFLA_INFO_SLAVE_DATA`, include/uapi/linux/if_link.h.
 
-ghost use Rattle.std.specs.Prelude.{◌≡◌, None};
+ghost use Rattle.std.specs.Prelude.{◌≡◌};
 ghost use Rattle.nla_frame.specs.Answers.{CertainUnless, Gives};
 ghost use Rattle.linkinfo_numbers.specs.PortKind.{tag_of_port_kind};
 ghost use Rattle.linkinfo_data.specs.PortData.{
@@ -8,7 +8,6 @@ ghost use Rattle.linkinfo_data.specs.PortData.{
   port_data_payload,
   port_family_of,
   port_known,
-  port_nest,
 };
 
 use crate::ask::Ask;
@@ -19,7 +18,7 @@ use linkinfo_devices::InfoVrfPort;
 use linkinfo_numbers::{IFLA_INFO_SLAVE_DATA, InfoPortKind, PortTag};
 use linkinfo_peers::InfoTeamPort;
 use linkinfo_table::{LayerFamilies, LinkLayer};
-use nla_frame::{Bytes, DecodeError, ExactEq, Family, HeaderCount, Nla, Nlas};
+use nla_frame::{Bytes, DecodeError, ExactEq, HeaderCount, Nla, Nlas};
 use std::alloc::Global;
 
 /// The family of the attributes in `IFLA_INFO_SLAVE_DATA`, which the kind of the port chooses.
@@ -80,18 +79,6 @@ impl<P: DataLayer> PayloadFamily<InfoPortDataOf<P>> for PortFamily {
     ghost data_of = { port_data_of P.families };
 
     ghost known = { port_known P.families };
-
-    ghost nested_in = { λ _. None };
-
-    ghost nests = { port_nest P.families };
-
-    fn listing(self) -> Option<Family> {
-        P::port_data_listing(self)
-    }
-
-    fn nested(self) -> Option<(u16, Self)> {
-        None
-    }
 
     fn read(
         self,

@@ -1,8 +1,7 @@
 //! Data of tunnels.
 
-ghost use Rattle.std.specs.Prelude.{None};
 ghost use Rattle.linkinfo_data.specs.Layered.{types_of};
-ghost use Rattle.linkinfo_data.specs.TunnelData.{tunnels_data_of, tunnels_known, tunnels_nest};
+ghost use Rattle.linkinfo_data.specs.TunnelData.{tunnels_data_of, tunnels_known};
 
 use crate::ask::Ask;
 use crate::calls::{ask, read};
@@ -15,7 +14,7 @@ use linkinfo_tunnels::{
     InfoAmt, InfoBareUdp, InfoGeneve, InfoGre, InfoGre6, InfoGtp, InfoIpTunnel, InfoVti, InfoVxlan,
 };
 // End: written by tables/generate.
-use nla_frame::{DecodeError, ExactEq, Family, HeaderCount};
+use nla_frame::{DecodeError, ExactEq, HeaderCount};
 use std::alloc::Global;
 
 /// The families of data of tunnels.
@@ -107,34 +106,6 @@ impl<P: LinkLayer> PayloadFamily<InfoDataOf<P>> for TunnelFamily {
     ghost data_of = { λ family. tunnels_data_of (types_of ⟦<P as LayerFamilies>⟧.families) family };
 
     ghost known = { λ family. tunnels_known (types_of ⟦<P as LayerFamilies>⟧.families) family };
-
-    ghost nested_in = { λ _. None };
-
-    ghost nests = { λ family. tunnels_nest (types_of ⟦<P as LayerFamilies>⟧.families) family };
-
-    fn listing(self) -> Option<Family> {
-        match self {
-            // Begin: written by tables/generate from tables/kinds (listing).
-            TunnelFamily::Vxlan => Some(Family::Vxlan),
-            TunnelFamily::GreTap => Some(Family::Gre),
-            TunnelFamily::GreTap6 => Some(Family::Gre6),
-            TunnelFamily::IpTunnel(_) => Some(Family::IpTunnel),
-            TunnelFamily::GreTun => Some(Family::Gre),
-            TunnelFamily::GreTun6 => Some(Family::Gre6),
-            TunnelFamily::Vti => Some(Family::Vti),
-            TunnelFamily::Gtp => Some(Family::Gtp),
-            TunnelFamily::Geneve => Some(Family::Geneve),
-            TunnelFamily::Amt => Some(Family::Amt),
-            TunnelFamily::BareUdp => Some(Family::BareUdp),
-            TunnelFamily::ErSpan => Some(Family::Gre),
-            TunnelFamily::Ip6ErSpan => Some(Family::Gre6),
-            // End: written by tables/generate.
-        }
-    }
-
-    fn nested(self) -> Option<(u16, Self)> {
-        None
-    }
 
     fn read(
         self,

@@ -44,7 +44,8 @@ use Rattle.linkinfo_table.specs.FamilyRows.{
 }
 use Rattle.linkinfo_table.specs.FamilyRowLaws.{table_lookup}
 use Rattle.linkinfo_table.specs.Lookups.{LookupSays}
-use Rattle.linkinfo_table.specs.ByRows.{members_by_rows, rows_are_family}
+use Rattle.linkinfo_table.specs.ByRows.{members_with, rows_are_family}
+use Rattle.linkinfo_table.specs.Contents.{Contents}
 use Rattle.linkinfo_table.specs.Members.{IsFamily}
 use Rattle.linkinfo_table.specs.Rows.{headers_inside, meaning_in}
 use Rattle.linkinfo_table.specs.Labels.{each_keeps}
@@ -63,6 +64,8 @@ use Rattle.linkinfo_devices.specs.MacView.{
   Other,
 }
 use Rattle.linkinfo_devices.specs.Nested.{
+  nested_contained,
+  nested_contents,
   nested_rows,
   nested_owes,
   nested_says,
@@ -91,6 +94,12 @@ mac_plain_rows l =
 abbrev pub mac_rows : {X : Type 0} → Family → (X → Attribute) → MacLabels X → ℕ → ℕ → FamilyRow X
 mac_rows f attribute l around n =
     nested_rows f (λ d. l.other d) attribute (λ xs. l.mac_addr_data xs) (mac_plain_rows l) around n
+
+-- what attributes of each type inside `around` lists contain
+abbrev pub mac_contents : {X : Type 0} → Family → (X → Attribute) → MacLabels X → ℕ → ℕ → Contents
+mac_contents f attribute l around n =
+    nested_contents f (λ d. l.other d) attribute (λ xs. l.mac_addr_data xs) (mac_plain_rows l)
+    around n
 
 pub mac_keeps : {X : Type 0} (attribute : X → Attribute) (l : MacLabels X) →
     MacLabelsKeep attribute l → EachKeeps attribute (mac_plain_rows l)
@@ -139,14 +148,17 @@ mac_says f attribute l k c a =
 -- what `LinkFamily` requires of such a family
 pub mac_is : {X : Type 0} (f : Family) (attribute : X → Attribute) (l : MacLabels X) →
     MacLabelsKeep attribute l → (c : ℕ) →
-    IsFamily (members_by_rows f (λ d. l.other d) attribute (λ n. mac_rows f attribute l c n)
-    (headers_inside (λ n. row_of (mac_rows f attribute l c n))))
+    IsFamily (members_with f (λ d. l.other d) attribute (λ n. mac_rows f attribute l c n)
+    (headers_inside (λ n. row_of (mac_rows f attribute l c n))) (mac_contents f attribute l c)
+    false)
 mac_is f attribute l k c =
     rows_are_family f (λ d. l.other d) attribute (λ n. mac_rows f attribute l c n)
     (mac_owes f attribute l k c) (λ d. k.shown (Other d))
     (headers_inside (λ n. row_of (mac_rows f attribute l c n)))
     (λ a. nested_quarter f (λ d. l.other d) attribute (λ n. mac_rows f attribute l c n)
-    (mac_owes f attribute l k c) (λ d. k.shown (Other d)) a)
+    (mac_owes f attribute l k c) (λ d. k.shown (Other d)) a) (mac_contents f attribute l c) false
+    (λ n.
+    nested_contained f (λ d. l.other d) attribute (λ xs. l.mac_addr_data xs) (mac_plain_rows l) c n)
 
 -- a row of another type makes no difference
 found_after : (front : List (ℕ × Shape)) (r : ℕ × Shape) (rest : List (ℕ × Shape)) (n : ℕ) →

@@ -1,5 +1,5 @@
 -- The rows of `macvtap` links, and their canonical attributes, with lists of any depth.
-use Rattle.std.specs.Prelude.{◌≡◌, Bool, ℕ, List, [], refl}
+use Rattle.std.specs.Prelude.{◌≡◌, Bool, false, ℕ, List, [], refl}
 use Rattle.std.proofs.Common.{sym, ap, ◌∙◌}
 use Rattle.nla_frame.specs.Attribute.{Attribute, masked}
 use Rattle.nla_frame.specs.declared.error.Family.TheVariants as family
@@ -13,12 +13,14 @@ use Rattle.linkinfo_table.specs.FamilyRows.{
   row_of,
   table_row,
 }
+use Rattle.linkinfo_table.specs.Contents.{Contents}
 use Rattle.linkinfo_table.specs.Lookups.{LookupSays}
-use Rattle.linkinfo_table.specs.ByRows.{members_by_rows}
+use Rattle.linkinfo_table.specs.ByRows.{members_with}
 use Rattle.linkinfo_table.specs.Members.{IsFamily}
 use Rattle.linkinfo_table.specs.Rows.{headers_inside, meaning_in}
 use Rattle.linkinfo_table.specs.declared.decoded.Decoded.{Decoded}
 use Rattle.linkinfo_devices.specs.MacRows.{
+  mac_contents,
   mac_is,
   mac_lookup,
   mac_stores,
@@ -169,6 +171,10 @@ mac_vtap_plain_rows = mac_plain_rows mac_vtap_labels
 abbrev pub mac_vtap_rows : ℕ → ℕ → FamilyRow InfoMacVtap
 mac_vtap_rows c n = mac_rows family.MacVtap mac_vtap_attribute mac_vtap_labels c n
 
+-- what attributes of each type contain
+abbrev pub mac_vtap_contents : ℕ → ℕ → Contents
+mac_vtap_contents c n = mac_contents family.MacVtap mac_vtap_attribute mac_vtap_labels c n
+
 -- the rows agree with what the attributes of each type mean
 pub mac_vtap_says : (c : ℕ) (a : Attribute) →
     LookupSays family.MacVtap [] (λ d. macvtap.Other d) mac_vtap_attribute
@@ -180,8 +186,9 @@ mac_vtap_says c a = mac_says family.MacVtap mac_vtap_attribute mac_vtap_labels m
 
 -- the attributes inside so many lists are those of a lawful family
 pub mac_vtap_is : (c : ℕ) →
-    IsFamily (members_by_rows family.MacVtap (λ d. macvtap.Other d) mac_vtap_attribute
-    (λ n. mac_vtap_rows c n) (headers_inside (λ n. row_of (mac_vtap_rows c n))))
+    IsFamily (members_with family.MacVtap (λ d. macvtap.Other d) mac_vtap_attribute
+    (λ n. mac_vtap_rows c n) (headers_inside (λ n. row_of (mac_vtap_rows c n)))
+    (mac_vtap_contents c) false)
 mac_vtap_is c = mac_is family.MacVtap mac_vtap_attribute mac_vtap_labels mac_vtap_keep c
 
 -- these are the rows of the table of all families, except that a list nested in 128 others is

@@ -29,6 +29,7 @@ use Rattle.std.specs.Prelude.{
   Option,
   Some,
   None,
+  is_ok,
   refl,
 }
 use Rattle.std.proofs.Common.{sym, ap, subst, ◌∙◌, arith}
@@ -41,6 +42,9 @@ use Rattle.nla_frame.specs.declared.error.Family.{Family}
 use Rattle.nla_frame.specs.declared.error.DecodeError.{DecodeError}
 use Rattle.nla_frame.specs.declared.default_nla.DefaultNla.{DefaultNla}
 use Rattle.linkinfo_shapes.specs.declared.shape.Shape.TheVariants as shape
+use Rattle.linkinfo_table.specs.Contents.{Contents, IsContent, ListOf, Listed, NoList, each_accepted}
+use Rattle.linkinfo_table.specs.ListPayload.{values_accepted}
+use Rattle.linkinfo_table.specs.OneType.{rows_type}
 use Rattle.linkinfo_table.specs.TypedRows.{flat_typed}
 use Rattle.linkinfo_table.specs.declared.lookup.Lookup.{Lookup}
 use Rattle.linkinfo_table.specs.declared.lookup.Lookup.TheVariants as lookup
@@ -93,6 +97,17 @@ use Rattle.linkinfo_table.specs.SelfList.{inside}
 abbrev pub in_list : {X Y : Type 0} → (X → Y) → Result X DecodeError → Result Y DecodeError
 in_list label (Ok xs) = Ok (label xs)
 in_list label (Err e) = Err e
+
+-- the attributes of a list in an attribute of their own family, which a request asks for as a whole
+abbrev pub self_listed : {X : Type 0} → Family → (Attribute → Result X DecodeError) →
+    (Attribute → Attribute → Bool) → Listed
+self_listed family meaning alike = record {
+  family = family;
+  accepts = λ a. is_ok (meaning a);
+  alike = alike;
+  is_set = false;
+  is_whole = true;
+}
 
 -- a value with a payload that the family writes itself gives access to its list, whose byte string
 -- is the payload
@@ -181,8 +196,105 @@ module _ {X : Type 0} (f : Family) (other : DefaultNla → X) (attribute : X →
   unfolding alike_in
   list_alike c a b h e = ap (λ (r : Row X). row_alike r a b) (five c (masked a.kind) h e)
 
-  -- every other type, and type 5 at the maximum depth, has a row of the table, is rejected, or has
-  -- none
+  -- ---- what attributes of each type contain: those of type 5 a list of the same family one level
+  -- deeper, below the maximum depth
+
+  abbrev pub contents_below : ℕ → ℕ → Contents
+  contents_below zero n = NoList
+  contents_below (suc levels) n =
+      if n == 5
+      then ListOf
+      (self_listed f (meaning_in f other (λ k. level levels k)) (alike_in (λ k. level levels k)))
+      (contents_below levels)
+      else NoList
+
+  abbrev pub nested_contents : ℕ → ℕ → Contents
+  nested_contents around n = contents_below (128 - around) n
+
+  pub list_contents : (c n : ℕ) → c < 128 → n ≡ 5 →
+      nested_contents c n
+      ≡ ListOf
+      (self_listed f (meaning_in f other (λ k. at (c + 1) k)) (alike_in (λ k. at (c + 1) k)))
+      (nested_contents (c + 1))
+  list_contents c n h e =
+      let one_less : 128 - c ≡ suc (128 - (c + 1)) = omega (arith, h) in
+      ap (λ (levels : ℕ). contents_below levels n) one_less
+      ∙ ap (λ (k : ℕ). contents_below (suc (128 - (c + 1))) k) e
+
+  pub flat_contents : (c n : ℕ) → (n ≡ 5 → 128 ≤ c) → nested_contents c n ≡ NoList
+  flat_contents c n h = go (128 - c) (λ e. omega (arith, h e))
+    where
+      go : (levels : ℕ) → (n ≡ 5 → levels ≡ 0) → contents_below levels n ≡ NoList
+      go zero none = refl
+      go (suc levels) none = by (n == 5) refl
+        where
+          by : (b : Bool) → (n == 5) ≡ b →
+              (if b
+              then ListOf
+              (self_listed f (meaning_in f other (λ k. level levels k))
+              (alike_in (λ k. level levels k))) (contents_below levels)
+              else NoList) ≡ NoList
+          by true e = absurd (let never : suc levels ≡ 0 = none (eqb-true n 5 e) in cc)
+          by false e = refl
+
+  listed_ok : (r : Result (List X) DecodeError) → is_ok (in_list label r) ≡ is_ok r
+  listed_ok (Ok xs) = refl
+  listed_ok (Err e) = refl
+
+  level_accepts : (levels : ℕ) (a : Attribute) → masked a.kind ≡ 5 →
+      is_ok (meaning_in f other (λ k. level (suc levels) k) a)
+      ≡ each_accepted (λ b. is_ok (meaning_in f other (λ k. level levels k) b)) (nla_items a.value)
+  unfolding meaning_in
+  level_accepts levels a e =
+      ap (λ (n : ℕ). is_ok (row_meaning f other (level (suc levels) n) a)) e
+      ∙ ap (λ (r : Result X DecodeError). is_ok r) (labelled_inside (masked a.kind) _)
+      ∙ listed_ok _
+      ∙ values_accepted (λ _ b. meaning_in f other (λ k. level levels k) b) (λ t _. t) (tt {0})
+      (nla_items a.value)
+
+  level_alike : (levels : ℕ) (a b : Attribute) → masked a.kind ≡ 5 →
+      alike_in (λ k. level (suc levels) k) a b
+      ≡ ((masked b.kind == masked a.kind)
+      && alike_pairs (alike_in (λ k. level levels k)) (nla_items a.value) (nla_items b.value))
+  unfolding alike_in
+  level_alike levels a b e = ap (λ (n : ℕ). row_alike (level (suc levels) n) a b) e
+
+  contained_below : (levels n : ℕ) →
+      IsContent (contents_below levels n) n
+      (λ a. is_ok (meaning_in f other (λ k. level levels k) a)) (alike_in (λ k. level levels k))
+  contained_below zero n = tt
+  contained_below (suc levels) n = by (λ k. contained_below levels k) (n == 5) refl
+    where
+      by : ((k : ℕ) →
+          IsContent (contents_below levels k) k
+          (λ a. is_ok (meaning_in f other (λ k. level levels k) a))
+          (alike_in (λ k. level levels k))) →
+          (b : Bool) → (n == 5) ≡ b →
+          IsContent
+          (if b
+          then ListOf
+          (self_listed f (meaning_in f other (λ k. level levels k))
+          (alike_in (λ k. level levels k))) (contents_below levels)
+          else NoList) n
+          (λ a. is_ok (meaning_in f other (λ k. level (suc levels) k) a))
+          (alike_in (λ k. level (suc levels) k))
+      by inside true e =
+          let five : n ≡ 5 = eqb-true n 5 e in (
+            λ a typed. level_accepts levels a (typed ∙ five),
+            λ a b typed. level_alike levels a b (typed ∙ five),
+            rows_type (λ k. level levels k),
+            inside,
+          )
+      by inside false e = tt
+
+  pub nested_contained : (c n : ℕ) →
+      IsContent (nested_contents c n) n (λ a. is_ok (meaning_in f other (λ k. at c k) a))
+      (alike_in (λ k. at c k))
+  nested_contained c n = contained_below (128 - c) n
+
+  -- ---- every other type, and type 5 at the maximum depth, has a row of the table, is rejected, or
+  -- has none
+
   module _ (keeps : EachKeeps attribute plain) where
     elsewhere : (levels n : ℕ) → (n ≡ 5 → levels ≡ 0) →
         IsFlat (level_rows f other attribute 5 label (λ k. table_row plain k) levels n)

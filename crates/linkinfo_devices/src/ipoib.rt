@@ -96,6 +96,10 @@ impl RowFamily for InfoIpoib {
 impl TableFamily for InfoIpoib {
     type Custom = ();
 
+    const IS_SET: bool = false;
+
+    ghost IS_SET = { false };
+
     ghost flat_elsewhere = { λ _ n _. table_flat ipoib_attribute ipoib_rows ipoib_keeps n };
 
     ghost plain_elsewhere = { λ _ _. refl };

@@ -141,6 +141,10 @@ impl<const TAP: bool> Nla for InfoIpVlanOf<TAP> {
 impl<const TAP: bool> TableFamily for InfoIpVlanOf<TAP> {
     type Custom = ();
 
+    const IS_SET: bool = false;
+
+    ghost IS_SET = { false };
+
     ghost flat_elsewhere = { λ _ n _.
         table_flat ip_vlan_attribute ip_vlan_rows (ip_vlan_keeps _) n };
 

@@ -17,6 +17,7 @@ mod macvlan;
 mod macvtap;
 mod nested_calls;
 mod nested_canonical;
+mod nested_differences;
 mod nested_emission;
 mod nested_family;
 

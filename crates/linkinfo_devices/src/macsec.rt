@@ -129,6 +129,10 @@ impl RowFamily for InfoMacSec {
 impl TableFamily for InfoMacSec {
     type Custom = ();
 
+    const IS_SET: bool = false;
+
+    ghost IS_SET = { false };
+
     ghost flat_elsewhere = { λ _ n _. table_flat mac_sec_attribute mac_sec_rows mac_sec_keeps n };
 
     ghost plain_elsewhere = { λ _ _. refl };

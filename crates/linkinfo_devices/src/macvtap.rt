@@ -2,6 +2,7 @@
 
 ghost use Rattle.linkinfo_devices.specs.Macvtap.{
   mac_vtap_attribute,
+  mac_vtap_contents,
   mac_vtap_holds_list,
   mac_vtap_is,
   mac_vtap_keep,
@@ -14,8 +15,10 @@ ghost use Rattle.linkinfo_devices.specs.MacRows.{mac_keeps, mac_owes};
 ghost use Rattle.linkinfo_devices.specs.MacView as view;
 ghost use Rattle.linkinfo_devices.specs.Nested.{
   LendsList,
+  flat_contents,
   flat_elsewhere,
   list_alike,
+  list_contents,
   list_headers,
   list_means,
   list_needs_memory,
@@ -39,11 +42,12 @@ ghost use Rattle.linkinfo_table.specs.Rows.{
 };
 ghost use Rattle.nla_frame.specs.Attribute.{masked};
 ghost use Rattle.nla_frame.specs.declared.error.Family.TheVariants as family;
-ghost use Rattle.std.specs.Prelude.{◌≡◌, [], true, IsOk, OnErr, OnOk};
+ghost use Rattle.std.specs.Prelude.{◌≡◌, [], false, true, IsOk, OnErr, OnOk};
 
 use crate::mac_rows::mac_rows;
 use crate::nested_calls::{nested_check, nested_parse, nested_push, nested_read, nested_same};
 use crate::nested_canonical::{nested_canonical_len, nested_write_canonical};
+use crate::nested_differences::{nested_difference, nested_error, nested_unmet};
 use crate::nested_emission::{
     nested_emit_payload, nested_emit_value, nested_fit_len, nested_kind, nested_value_len,
 };
@@ -51,7 +55,8 @@ use crate::nested_family::{NestedFamily, nested_shape};
 use bitflags::Flags;
 use linkinfo_numbers::{MacVlanFlags, MacVlanMacAddressMode, MacVlanMode};
 use linkinfo_table::{
-    Decoded, Encodable, LinkFamily, Lookup, RowFamily, Slot, encodable_by_rows, store_by_rows,
+    Decoded, Difference, Encodable, LinkFamily, Lookup, PlacedNla, RowFamily, Slot, Unmet,
+    encodable_by_rows, store_by_rows,
 };
 use nla_frame::{
     DecodeError, DefaultNla, ExactEq, Family, HeaderCount, Nla, NlaBuffer, Nlas, Parseable,
@@ -151,6 +156,8 @@ impl RowFamily for InfoMacVtap {
 impl NestedFamily for InfoMacVtap {
     ghost list_value = { λ xs. macvtap.MacAddrData xs };
 
+    ghost contents = { mac_vtap_contents };
+
     fn from_list(items: Nlas<InfoMacVtap>) -> InfoMacVtap
         ensures { result ≡ macvtap.MacAddrData items }
     {
@@ -183,6 +190,14 @@ impl NestedFamily for InfoMacVtap {
     ghost list_alike = { λ c a b.
         list_alike family.MacVtap (λ d. macvtap.Other d) mac_vtap_attribute
         (λ xs. macvtap.MacAddrData xs) mac_vtap_plain_rows c a b };
+
+    ghost list_contents = { λ c n.
+        list_contents family.MacVtap (λ d. macvtap.Other d) mac_vtap_attribute
+        (λ xs. macvtap.MacAddrData xs) mac_vtap_plain_rows c n };
+
+    ghost flat_contents = { λ c n.
+        flat_contents family.MacVtap (λ d. macvtap.Other d) mac_vtap_attribute
+        (λ xs. macvtap.MacAddrData xs) mac_vtap_plain_rows c n };
 
     ghost flat_elsewhere = { λ c n.
         flat_elsewhere family.MacVtap (λ d. macvtap.Other d) mac_vtap_attribute
@@ -222,6 +237,10 @@ impl LinkFamily for InfoMacVtap {
 
     ghost FAMILY = { family.MacVtap };
 
+    const IS_SET: bool = false;
+
+    ghost IS_SET = { false };
+
     ghost inside = { [] };
 
     ghost lookup = { λ c n. lookup_of (mac_vtap_rows c n) };
@@ -239,6 +258,8 @@ impl LinkFamily for InfoMacVtap {
 
     ghost well = { λ c x.
         WellFormed (λ d. macvtap.Other d) mac_vtap_attribute (λ n. row_of (mac_vtap_rows c n)) x };
+
+    ghost contents = { mac_vtap_contents };
 
     ghost keeps = { λ d. mac_vtap_keep.shown (view.Other d) };
 
@@ -299,6 +320,18 @@ impl LinkFamily for InfoMacVtap {
 
     fn write_canonical(nla: &NlaBuffer<'_>, lists: u8, buffer: &mut [u8]) -> usize {
         nested_write_canonical::<InfoMacVtap>(nla, lists, buffer)
+    }
+
+    fn error_offset(nla: &NlaBuffer<'_>, lists: u8) -> Option<usize> {
+        nested_error::<InfoMacVtap>(nla, lists)
+    }
+
+    fn difference(a: &PlacedNla<'_>, b: &PlacedNla<'_>, lists: u8) -> Option<Difference> {
+        nested_difference::<InfoMacVtap>(a, b, lists)
+    }
+
+    fn unmet(have: &PlacedNla<'_>, want: &PlacedNla<'_>, lists: u8) -> Option<Unmet> {
+        nested_unmet::<InfoMacVtap>(have, want, lists)
     }
 }
 

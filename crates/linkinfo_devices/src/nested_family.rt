@@ -4,10 +4,11 @@ ghost use Rattle.std.specs.Prelude.{◌≡◌, ◌+◌, ◌==◌, ◌&&◌, ◌<
 ghost use Rattle.nla_frame.specs.Attribute.{Attribute, list_string, masked};
 ghost use Rattle.nla_frame.specs.NlaItems.{nla_items};
 ghost use Rattle.linkinfo_shapes.specs.Table.{shape_of};
+ghost use Rattle.linkinfo_table.specs.Contents.{Contents, ListOf, NoList};
 ghost use Rattle.linkinfo_table.specs.FamilyMeaning.{alike_by, headers_by, meaning_by, memory_by};
 ghost use Rattle.linkinfo_table.specs.FamilyRows.{IsFlat, lookup_in};
 ghost use Rattle.linkinfo_table.specs.Lists.{alike_pairs, headers_of, memory_of, values};
-ghost use Rattle.linkinfo_devices.specs.Nested.{LendsList, in_list, nested_lookup};
+ghost use Rattle.linkinfo_devices.specs.Nested.{LendsList, in_list, nested_lookup, self_listed};
 
 use linkinfo_table::{Lookup, RowFamily, table_lookup};
 use nla_frame::{Cause, Family, Nlas};
@@ -26,6 +27,9 @@ pub const MOST_LISTS: u8 = 128;
 pub trait NestedFamily: RowFamily<Context = u8> + Drop {
     /// The value that contains a list.
     ghost list_value: { List Self → Self };
+
+    /// What attributes of each type without flag bits contain.
+    ghost contents: { ℕ → ℕ → Contents };
 
     /// Makes the value that contains the list.
     fn from_list(items: Nlas<Self>) -> Self
@@ -60,6 +64,15 @@ pub trait NestedFamily: RowFamily<Context = u8> + Drop {
         ≡ ((masked b.kind == masked a.kind)
         && alike_pairs (alike_by Self.RowFamily.own (c + 1)) (nla_items a.value)
         (nla_items b.value)) };
+
+    ghost list_contents: { (c n : ℕ) → c < 128 → n ≡ 5 →
+        contents c n
+        ≡ ListOf
+        (self_listed Self.FAMILY (meaning_by Self.RowFamily.own (c + 1))
+        (alike_by Self.RowFamily.own (c + 1)))
+        (contents (c + 1)) };
+
+    ghost flat_contents: { (c n : ℕ) → (n ≡ 5 → 128 ≤ c) → contents c n ≡ NoList };
 
     ghost flat_elsewhere: { (c n : ℕ) → (n ≡ 5 → 128 ≤ c) → IsFlat (Self.rows c n) };
 }

@@ -117,6 +117,10 @@ fn pair_of(under: InfoRmNetFlags) -> (u32, u32)
 impl TableFamily for InfoRmNet {
     type Custom = ();
 
+    const IS_SET: bool = false;
+
+    ghost IS_SET = { false };
+
     ghost flat_elsewhere = { λ _ n _. table_flat rm_net_attribute rm_net_rows rm_net_keeps n };
 
     ghost plain_elsewhere = { λ _ _. refl };

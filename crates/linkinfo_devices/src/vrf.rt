@@ -91,6 +91,10 @@ impl RowFamily for InfoVrf {
 impl TableFamily for InfoVrf {
     type Custom = ();
 
+    const IS_SET: bool = false;
+
+    ghost IS_SET = { false };
+
     ghost flat_elsewhere = { λ _ n _. table_flat vrf_attribute vrf_rows vrf_keeps n };
 
     ghost plain_elsewhere = { λ _ _. refl };

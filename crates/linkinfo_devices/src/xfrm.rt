@@ -91,6 +91,10 @@ impl RowFamily for InfoXfrm {
 impl TableFamily for InfoXfrm {
     type Custom = ();
 
+    const IS_SET: bool = false;
+
+    ghost IS_SET = { false };
+
     ghost flat_elsewhere = { λ _ n _. table_flat xfrm_attribute xfrm_rows xfrm_keeps n };
 
     ghost plain_elsewhere = { λ _ _. refl };

@@ -173,6 +173,10 @@ type Rows = (FlaggedRow<()>, (ListedRow<()>, ()));
 impl TableFamily for InfoMarked {
     type Custom = Rows;
 
+    const IS_SET: bool = false;
+
+    ghost IS_SET = { false };
+
     ghost flat_elsewhere = { λ _ n. marked_flat vlan_members n };
 
     ghost plain_elsewhere = { λ _ h. h };

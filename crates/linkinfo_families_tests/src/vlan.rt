@@ -83,6 +83,10 @@ impl RowFamily for InfoVlanRow {
 impl TableFamily for InfoVlanRow {
     type Custom = ();
 
+    const IS_SET: bool = false;
+
+    ghost IS_SET = { false };
+
     ghost flat_elsewhere = { λ _ n _. table_flat vlan_attribute vlan_rows vlan_keeps n };
 
     ghost plain_elsewhere = { λ _ _. refl };

@@ -1,12 +1,27 @@
 -- Rows of a family with a peer: type 1 is the peer, and the other types have rows of shapes or
 -- none.
-use Rattle.std.specs.Prelude.{◌≡◌, ℕ, ◌==◌, ◌||◌, Bool, true, false, List, [], ◌∷◌, Option, refl}
+use Rattle.std.specs.Prelude.{
+  ◌≡◌,
+  ℕ,
+  ◌==◌,
+  ◌||◌,
+  Bool,
+  true,
+  false,
+  if◌then◌else◌,
+  List,
+  [],
+  ◌∷◌,
+  Option,
+  refl,
+}
 use Rattle.std.proofs.Common.{arith, lit<}
 use Rattle.nla_frame.specs.Attribute.{Attribute}
 use Rattle.nla_frame.specs.declared.default_nla.DefaultNla.{DefaultNla}
 use Rattle.linkinfo_shapes.specs.Table.{found}
 use Rattle.linkinfo_shapes.specs.declared.shape.Shape.TheVariants as shape
 use Rattle.linkinfo_table.specs.Codecs.{Codec}
+use Rattle.linkinfo_table.specs.Contents.{Contents, IsContent, NoList, contents_either}
 use Rattle.linkinfo_table.specs.CustomRows.{either_quarter, headers_either}
 use Rattle.linkinfo_table.specs.FamilyRowLaws.{table_flat, table_lookup, table_owes}
 use Rattle.linkinfo_table.specs.FamilyRows.{
@@ -39,6 +54,18 @@ use Rattle.linkinfo_table.specs.declared.peer.LinkPeer.{Ghosts}
 -- no headers are examined inside a peer, and none inside another attribute
 abbrev pub peer_headers : Attribute → ℕ
 peer_headers = headers_either 1 (λ _. 0) (λ _. 0)
+
+-- nor any list
+abbrev pub peer_contents : ℕ → Contents
+peer_contents = λ n. contents_either 1 NoList (λ _. NoList) n
+
+pub peer_contained : (accepts : Attribute → Bool) (alike : Attribute → Attribute → Bool) (n : ℕ) →
+    IsContent (peer_contents n) n accepts alike
+peer_contained accepts alike n = go (n == 1)
+  where
+    go : (b : Bool) → IsContent (if b then NoList else NoList) n accepts alike
+    go true = tt
+    go false = tt
 
 -- a value that contains no peer
 pub without_peer : (has_peer : Bool) → (has_peer || false) ≡ false → has_peer ≡ false

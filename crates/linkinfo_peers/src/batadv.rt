@@ -88,6 +88,10 @@ impl RowFamily for InfoBatAdv {
 impl TableFamily for InfoBatAdv {
     type Custom = ();
 
+    const IS_SET: bool = false;
+
+    ghost IS_SET = { false };
+
     ghost flat_elsewhere = { λ _ n _. table_flat bat_adv_attribute bat_adv_rows bat_adv_keeps n };
 
     ghost plain_elsewhere = { λ _ _. refl };

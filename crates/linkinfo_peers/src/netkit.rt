@@ -166,6 +166,10 @@ impl<P: LinkPeer> PayloadRow<InfoNetkitOf<P>> for PeerRow<P> {
 impl<P: LinkPeer> TableFamily for InfoNetkitOf<P> {
     type Custom = (PeerRow<P>, ());
 
+    const IS_SET: bool = false;
+
+    ghost IS_SET = { false };
+
     ghost flat_elsewhere = { λ _ n. netkit_flat P.LinkPeer.own n };
 
     ghost plain_elsewhere = { λ x. without_peer (netkit_is_custom x) };

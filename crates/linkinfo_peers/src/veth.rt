@@ -121,6 +121,10 @@ impl<P: LinkPeer> PayloadRow<InfoVethOf<P>> for PeerRow<P> {
 impl<P: LinkPeer> TableFamily for InfoVethOf<P> {
     type Custom = (PeerRow<P>, ());
 
+    const IS_SET: bool = false;
+
+    ghost IS_SET = { false };
+
     ghost flat_elsewhere = { λ _ n. veth_flat P.LinkPeer.own n };
 
     ghost plain_elsewhere = { λ x. without_peer (veth_is_custom x) };

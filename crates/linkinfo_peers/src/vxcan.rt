@@ -121,6 +121,10 @@ impl<P: LinkPeer> PayloadRow<InfoVxcanOf<P>> for PeerRow<P> {
 impl<P: LinkPeer> TableFamily for InfoVxcanOf<P> {
     type Custom = (PeerRow<P>, ());
 
+    const IS_SET: bool = false;
+
+    ghost IS_SET = { false };
+
     ghost flat_elsewhere = { λ _ n. vxcan_flat P.LinkPeer.own n };
 
     ghost plain_elsewhere = { λ x. without_peer (vxcan_is_custom x) };

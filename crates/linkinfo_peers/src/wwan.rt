@@ -88,6 +88,10 @@ impl RowFamily for InfoWwan {
 impl TableFamily for InfoWwan {
     type Custom = ();
 
+    const IS_SET: bool = false;
+
+    ghost IS_SET = { false };
+
     ghost flat_elsewhere = { λ _ n _. table_flat wwan_attribute wwan_rows wwan_keeps n };
 
     ghost plain_elsewhere = { λ _ _. refl };

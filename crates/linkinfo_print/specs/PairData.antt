@@ -24,8 +24,8 @@ use Rattle.nla_frame.specs.NlaItems.{attribute_at}
 use Rattle.nla_frame.specs.declared.error.DecodeError.{DecodeError}
 use Rattle.nla_frame.specs.declared.error.Family.{Family}
 use Rattle.nla_frame.specs.declared.error.Family.TheVariants as family
-use Rattle.linkinfo_data.specs.declared.difference.Difference.{Difference}
-use Rattle.linkinfo_data.specs.declared.unmet.Unmet.{Unmet}
+use Rattle.linkinfo_table.specs.declared.difference.Difference.{Difference}
+use Rattle.linkinfo_table.specs.declared.unmet.Unmet.{Unmet}
 use Rattle.linkinfo_numbers.specs.declared.tags.KindTag.{KindTag}
 use Rattle.linkinfo_numbers.specs.declared.tags.KindTag.TheVariants as kind
 use Rattle.linkinfo.specs.Roles.{no_kinds, role_at}

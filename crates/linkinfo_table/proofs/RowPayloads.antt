@@ -20,11 +20,9 @@ use Rattle.std.proofs.lemmas.Bool.{cond-false, cond-true, eq-eqb, ne_eqb}
 use Rattle.nla_frame.specs.Answers.{Answers, CertainUnless, Gives, OnAnswer, verdict}
 use Rattle.nla_frame.specs.Attribute.{Attribute, masked}
 use Rattle.nla_frame.specs.Canonical.{attribute_for, bytes_for}
-use Rattle.nla_frame.specs.declared.default_nla.DefaultNla.{DefaultNla}
 use Rattle.nla_frame.specs.declared.error.DecodeError.{DecodeError}
 use Rattle.nla_frame.specs.declared.error.Family.{Family}
-use Rattle.linkinfo_shapes.specs.declared.shape.Shape.{Shape}
-use Rattle.linkinfo_table.specs.Codecs.{Codec, PayloadError}
+use Rattle.linkinfo_table.specs.Codecs.{PayloadError}
 use Rattle.linkinfo_table.specs.CustomRows.{headers_either}
 use Rattle.linkinfo_table.specs.FamilyRows.{FamilyRow, row_of}
 use Rattle.linkinfo_table.specs.Payloads.{placed, wrapped}
@@ -32,13 +30,7 @@ use Rattle.linkinfo_table.specs.RowLaws.{alike_masked}
 use Rattle.linkinfo_table.specs.Rows.{
   alike_in,
   labelled,
-  meaning_in,
-  memory_in,
-  row_alike,
-  row_meaning,
-  row_needs_memory,
 }
-use Rattle.linkinfo_table.specs.TypedRows.{HasPayload}
 
 -- ---- facts of results
 
@@ -49,28 +41,6 @@ on_each (Err e) h = λ _. h
 pub where_true : (r : Bool) {P : Type 0} → (r ≡ true → P) → OnTrue r P
 where_true true next = next refl
 where_true false next = tt
-
--- ---- at a row with such a payload
-
-module _ {F : Type 0} (rows : ℕ → FamilyRow F) (a : Attribute) (k : ℕ) (at : masked a.kind ≡ k)
-    {shape : Shape} {nested : Bool} {codec : Codec} {label : codec.Carrier → F}
-    (row : HasPayload (rows k) shape nested codec label) where
-  pub row_needs : memory_in (λ n. row_of (rows n)) a ≡ codec.needs_memory a.value
-  unfolding memory_in
-  row_needs = ap (λ (n : ℕ). row_needs_memory (row_of (rows n)) a) at ∙ row.needs_memory a
-
-  pub row_compares : (b : Attribute) →
-      alike_in (λ n. row_of (rows n)) a b
-      ≡ ((masked b.kind == masked a.kind) && codec.alike a.value b.value)
-  unfolding alike_in
-  row_compares b = ap (λ (n : ℕ). row_alike (row_of (rows n)) a b) at ∙ row.alike a b
-
-  pub row_means : (f : Family) (other : DefaultNla → F) →
-      meaning_in f other (λ n. row_of (rows n)) a
-      ≡ labelled f (masked a.kind) label (codec.means a.value)
-  unfolding meaning_in
-  row_means f other =
-      ap (λ (n : ℕ). row_meaning f other (row_of (rows n)) a) at ∙ row.means f other a
 
 -- ---- from a payload to the value with it
 

@@ -3,6 +3,7 @@ use Rattle.std.specs.Prelude.{
   ◌≡◌,
   ◌==◌,
   ◌||◌,
+  ◌&&◌,
   ℕ,
   ◌*◌,
   ◌<◌,
@@ -14,17 +15,37 @@ use Rattle.std.specs.Prelude.{
   List,
   ◌++◌,
   length,
+  is_ok,
   refl,
 }
-use Rattle.std.proofs.Common.{subst, sym}
+use Rattle.std.proofs.Common.{ap, subst, sym, ◌∙◌}
 use Rattle.std.proofs.lemmas.Bool.{eqb-true, ltb-true}
 use Rattle.nla_frame.specs.Attribute.{Attribute, masked}
 use Rattle.nla_frame.specs.declared.error.Family.{Family}
 use Rattle.linkinfo_shapes.specs.declared.shape.Shape.{Shape}
 use Rattle.linkinfo_shapes.specs.declared.shape.Shape.TheVariants.{Peer}
+use Rattle.linkinfo_table.specs.Contents.{
+  Contents,
+  IsContent,
+  IsPayloadContent,
+  ListOf,
+  NoList,
+  contents_either,
+}
+use Rattle.linkinfo_table.specs.FamilyMeaning.{alike_by, meaning_by}
 use Rattle.linkinfo_table.specs.FamilyRows.{FamilyRow}
+use Rattle.linkinfo_table.specs.PayloadCodec.{codec_of}
 use Rattle.linkinfo_table.specs.Payloads.{is_payload_row}
-use Rattle.linkinfo_table.specs.TypedRows.{IsTyped, inside_after, inside_before}
+use Rattle.linkinfo_table.specs.TypedRows.{
+  HasPayload,
+  IsTyped,
+  inside_after,
+  inside_before,
+  row_accepts,
+  row_compares,
+}
+use Rattle.linkinfo_table.specs.declared.payload.LinkPayload as payload
+use Rattle.linkinfo_table.specs.declared.row_family.RowFamily as family
 
 -- the headers inside an attribute of this type, and inside one of the others
 abbrev pub headers_either : ℕ → (List ℕ → ℕ) → (Attribute → ℕ) → Attribute → ℕ
@@ -64,3 +85,38 @@ row_typed number inside others owned rows here n there h = go (n == number) refl
         inside_before inside others (rows n)
         (subst (λ (m : ℕ). IsTyped inside (rows m)) (sym (eqb-true n number e)) here)
     go false e k = inside_after inside others (rows n) (there k)
+
+-- ---- what attributes of a row contain
+
+module _ {F Context X : Type 0} (own : family.Ghosts F Context) (c : Context) (number : ℕ)
+    (held : payload.Ghosts X) (label : X → F) {shape : Shape} (nested : Bool)
+    (row : HasPayload (own.rows c number) shape nested (codec_of held) label) where
+  row_contained : (contents : Contents) →
+      IsPayloadContent contents (λ p. is_ok (held.means p)) held.alike →
+      IsContent contents number (λ a. is_ok (meaning_by own c a)) (alike_by own c)
+  row_contained NoList law = tt
+  row_contained (ListOf l inside) law = (
+    λ a typed.
+        row_accepts (own.rows c) a number typed row own.FAMILY own.other ∙ law.0 a.value,
+    λ a b typed.
+        row_compares (own.rows c) a number typed row b
+        ∙ ap (λ (r : Bool). (masked b.kind == masked a.kind) && r) (law.1 a.value b.value),
+    law.2,
+    law.3,
+  )
+
+  pub either_contained : IsPayloadContent held.contents (λ p. is_ok (held.means p)) held.alike →
+      (others : ℕ → Contents) →
+      ((n : ℕ) → IsContent (others n) n (λ a. is_ok (meaning_by own c a)) (alike_by own c)) →
+      (n : ℕ) →
+      IsContent (contents_either number held.contents others n) n
+      (λ a. is_ok (meaning_by own c a)) (alike_by own c)
+  either_contained here others there n = go (n == number) refl
+    where
+      go : (b : Bool) → (n == number) ≡ b →
+          IsContent (if b then held.contents else others n) n
+          (λ a. is_ok (meaning_by own c a)) (alike_by own c)
+      go true e =
+          subst (λ (m : ℕ). IsContent held.contents m (λ a. is_ok (meaning_by own c a))
+          (alike_by own c)) (sym (eqb-true n number e)) (row_contained held.contents here)
+      go false e = there n

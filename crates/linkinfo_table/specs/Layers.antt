@@ -1,8 +1,7 @@
 -- What other layers supply: the types of a layer, what they define, and the laws of that.
 use Rattle.nla_frame.specs.declared.error.Family.{Family}
 use Rattle.nla_frame.specs.NlaItems.{nla_items}
-use Rattle.std.specs.Prelude.{◌≡◌, ℕ, Bool, true, List, ◌∷◌}
-use Rattle.nla_frame.specs.Attribute.{Attribute, masked}
+use Rattle.std.specs.Prelude.{ℕ, List, ◌∷◌}
 use Rattle.linkinfo_table.specs.Named.{EachNamed}
 use Rattle.linkinfo_table.specs.Lists.{values}
 use Rattle.linkinfo_table.specs.Members.{IsFamily, Members}
@@ -43,29 +42,10 @@ names_of m = m.family ∷ m.inner
 abbrev pub ErrorsNamed : {X : Type 0} → Members X → Type 0
 ErrorsNamed m = (p : List ℕ) → EachNamed (names_of m) (values m.meaning (nla_items p))
 
--- equivalent attributes have one type, flag bits aside
-abbrev pub HasOneType : (Attribute → Attribute → Bool) → Type 0
-HasOneType alike = (a b : Attribute) → alike a b ≡ true → masked a.kind ≡ masked b.kind
-
--- so do those of each family of a layer, given when two are equivalent
-pub record HaveOneType (bond bridge vlan can hsr dsa tun bond_port bridge_port :
-    Attribute → Attribute → Bool) : Type 0 where
-  pub bond_type : HasOneType bond
-  pub bridge_type : HasOneType bridge
-  pub vlan_type : HasOneType vlan
-  pub can_type : HasOneType can
-  pub hsr_type : HasOneType hsr
-  pub dsa_type : HasOneType dsa
-  pub tun_type : HasOneType tun
-  pub bond_port_type : HasOneType bond_port
-  pub bridge_port_type : HasOneType bridge_port
-
--- a family is lawful, its errors have its name or that of a family inside, and equivalent
--- attributes have one type
+-- a family is lawful, and its errors have its name or that of a family inside
 pub record IsSupplied {X : Type 0} (m : Members X) : Type 0 where
   pub laws : IsFamily m
   pub named : ErrorsNamed m
-  pub one_type : HasOneType m.alike
 
 -- the peer and each family of a layer are lawful
 pub record IsLayer {t : Types} (f : Families t) : Type 0 where

@@ -4,7 +4,10 @@ pub mod Calls
 pub mod Canonical
 pub mod Codecs
 pub mod Conditions
+pub mod Contents
 pub mod CustomRows
+pub mod Difference
+pub mod Equal
 pub mod ErrorMemory
 pub mod ErrorNames
 pub mod FamilyMeaning
@@ -34,3 +37,4 @@ pub mod Rows
 pub mod SelfList
 pub mod TableFamily
 pub mod TypedRows
+pub mod Unmet

@@ -16,6 +16,7 @@ use Rattle.std.specs.Prelude.{
   Result,
   Ok,
   Err,
+  is_ok,
   refl,
 }
 use Rattle.std.specs.List.{AllByRecursion}
@@ -30,6 +31,7 @@ use Rattle.nla_frame.proofs.Emitting.{one_fits}
 use Rattle.nla_frame.proofs.Framing.{split_is, splits_attributes}
 use Rattle.nla_frame.proofs.Stepping.{nla_items_split, nla_items_nil, seen_room, by_nla_items}
 use Rattle.linkinfo_table.specs.Codecs.{Codec, IsCodec}
+use Rattle.linkinfo_table.specs.Contents.{Contents, HasOneType, IsContent, ListOf, listed}
 use Rattle.linkinfo_table.specs.Lists.{first_meaning, first_headers, first_alike, first_memory}
 use Rattle.linkinfo_table.specs.ListLaws.{header_is_no_memory, first_read_well, first_well_reads}
 use Rattle.linkinfo_table.specs.SelfList.{
@@ -51,22 +53,33 @@ pub record Members (X : Type 0) : Type 1 where
   pub needs_memory : Attribute → Bool
   pub attribute : X → Attribute
   pub well : X → Type 0
+  -- what attributes of each type without flag bits contain
+  pub contents : ℕ → Contents
+  -- whether a list of the attributes is a set
+  pub is_set : Bool
 
 -- the members under the context `c`
 abbrev pub members_at : {C X : Type 0} → Family → List Family →
     (C → Attribute → Result X DecodeError) → (C → Attribute → ℕ) →
     (C → Attribute → Attribute → Bool) → (C → Attribute → Bool) → (X → Attribute) →
-    (C → X → Type 0) → C → Members X
-members_at family inner meaning headers alike needs_memory attribute well c = record {
-  family = family;
-  inner = inner;
-  meaning = meaning c;
-  headers = headers c;
-  alike = alike c;
-  needs_memory = needs_memory c;
-  attribute = attribute;
-  well = well c;
-}
+    (C → X → Type 0) → (C → ℕ → Contents) → Bool → C → Members X
+members_at family inner meaning headers alike needs_memory attribute well contents is_set c =
+    record {
+      family = family;
+      inner = inner;
+      meaning = meaning c;
+      headers = headers c;
+      alike = alike c;
+      needs_memory = needs_memory c;
+      attribute = attribute;
+      well = well c;
+      contents = contents c;
+      is_set = is_set;
+    }
+
+-- a payload that is a list of attributes of the family
+abbrev pub listed_of : {X : Type 0} → Members X → Contents
+listed_of f = ListOf (listed f.family f.meaning f.alike f.is_set) f.contents
 
 -- the laws of `LinkFamily`
 pub record IsFamily {X : Type 0} (f : Members X) : Type 0 where
@@ -77,6 +90,8 @@ pub record IsFamily {X : Type 0} (f : Members X) : Type 0 where
   pub read_well : (a : Attribute) (x : X) → IsAttribute a → f.meaning a ≡ Ok x → f.well x
   pub well_reads : (x : X) → f.well x → Fits (f.attribute x) → f.meaning (f.attribute x) ≡ Ok x
   pub well_attribute : (x : X) → f.well x → Fits (f.attribute x) → IsAttribute (f.attribute x)
+  pub one_type : HasOneType f.alike
+  pub contained : (n : ℕ) → IsContent (f.contents n) n (λ a. is_ok (f.meaning a)) f.alike
 
 -- ---- a payload that is a list of attributes of the family
 

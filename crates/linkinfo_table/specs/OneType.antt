@@ -2,7 +2,7 @@
 use Rattle.std.specs.Prelude.{ℕ}
 use Rattle.std.proofs.Common.{sym}
 use Rattle.nla_frame.specs.Attribute.{masked}
-use Rattle.linkinfo_table.specs.Layers.{HasOneType}
+use Rattle.linkinfo_table.specs.Contents.{HasOneType}
 use Rattle.linkinfo_table.specs.RowLaws.{alike_masked}
 use Rattle.linkinfo_table.specs.Rows.{Row, alike_in}
 

@@ -14,6 +14,7 @@ use Rattle.std.specs.Prelude.{
   length,
   Result,
   Err,
+  is_ok,
   refl,
 }
 use Rattle.nla_frame.specs.Attribute.{Attribute, masked}
@@ -22,6 +23,7 @@ use Rattle.nla_frame.specs.declared.default_nla.DefaultNla.{DefaultNla}
 use Rattle.nla_frame.specs.declared.error.DecodeError.{DecodeError}
 use Rattle.nla_frame.specs.declared.error.Family.{Family}
 use Rattle.linkinfo_table.specs.ByRows.{members_written_by_rows, written_are_family}
+use Rattle.linkinfo_table.specs.Contents.{Contents, IsContent}
 use Rattle.linkinfo_table.specs.ErrorMemory.{rows_certain, typed_other}
 use Rattle.linkinfo_table.specs.ErrorNames.{names_first, names_list}
 use Rattle.linkinfo_table.specs.FamilyRows.{FamilyRow, IsFlat, RowOwes, lookup_of}
@@ -31,7 +33,7 @@ use Rattle.linkinfo_table.specs.LookupLaws.{rows_say}
 use Rattle.linkinfo_table.specs.Lookups.{HoldsNone, LookupSays}
 use Rattle.linkinfo_table.specs.Members.{IsFamily}
 use Rattle.linkinfo_table.specs.Named.{EachNamed}
-use Rattle.linkinfo_table.specs.Rows.{meaning_in, memory_in}
+use Rattle.linkinfo_table.specs.Rows.{alike_in, meaning_in, memory_in}
 use Rattle.linkinfo_table.specs.TypedRows.{IsTyped, flat_typed}
 
 -- What `LinkFamily` requires of such a family, whatever its name: `attribute` is the canonical
@@ -47,8 +49,12 @@ pub record IsTableWritten {F : Type 0} (other : DefaultNla → F) (attribute emi
       HoldsNone (lookup_of (rows (masked a.kind))) →
       meaning_in f other (λ n. row_of (rows n)) a ≡ Err e →
       memory_in (λ n. row_of (rows n)) a ≡ false
-  pub laws : (f : Family) →
-      IsFamily (members_written_by_rows f other attribute rows emitted headers inside)
+  pub laws : (f : Family) (contents : ℕ → Contents) (is_set : Bool) →
+      ((n : ℕ) →
+      IsContent (contents n) n (λ a. is_ok (meaning_in f other (λ k. row_of (rows k)) a))
+      (alike_in (λ k. row_of (rows k)))) →
+      IsFamily
+      (members_written_by_rows f other attribute rows emitted headers inside contents is_set)
 
 abbrev pub IsTableFamily : {F : Type 0} → (DefaultNla → F) → (F → Attribute) → (ℕ → FamilyRow F) →
     (Attribute → ℕ) → List Family → Type 1
@@ -81,9 +87,9 @@ table_lawful other attribute emitted written rows headers inside typed owes keep
       certain = λ f a e.
           rows_certain f other rows a e
           (typed_other inside (rows (masked a.kind)) (typed (masked a.kind)));
-      laws = λ f.
+      laws = λ f contents is_set contained.
           written_are_family f other attribute rows emitted written owes keeps_other headers
-          quarter inside;
+          quarter inside contents is_set contained;
     }
 
 -- each error of such a family has its name or that of a family inside, in lists and in first

@@ -14,9 +14,13 @@ use Rattle.std.specs.Prelude.{
   ◌∷◌,
   ◌++◌,
   Some,
+  Result,
+  Ok,
+  Err,
+  is_ok,
   refl,
 }
-use Rattle.std.proofs.Common.{subst}
+use Rattle.std.proofs.Common.{ap, subst, ◌∙◌}
 use Rattle.nla_frame.specs.Attribute.{Attribute, masked}
 use Rattle.nla_frame.specs.declared.default_nla.DefaultNla.{DefaultNla}
 use Rattle.nla_frame.specs.declared.error.DecodeError.{DecodeError}
@@ -25,7 +29,7 @@ use Rattle.linkinfo_shapes.specs.Shapes.{IsPlain}
 use Rattle.linkinfo_shapes.specs.Table.{found}
 use Rattle.linkinfo_shapes.specs.declared.shape.Shape.{Shape}
 use Rattle.linkinfo_shapes.specs.declared.shape.Shape.TheVariants.{Nested, Peer, SelfList}
-use Rattle.linkinfo_table.specs.Codecs.{Codec, IsCodec}
+use Rattle.linkinfo_table.specs.Codecs.{Codec, IsCodec, PayloadError}
 use Rattle.linkinfo_table.specs.FamilyRowLaws.{row_if_owes}
 use Rattle.linkinfo_table.specs.FamilyRows.{
   Absent,
@@ -43,7 +47,10 @@ use Rattle.linkinfo_table.specs.FamilyRows.{
 use Rattle.linkinfo_table.specs.Named.{IsNamed, named_after, named_before}
 use Rattle.linkinfo_table.specs.Payloads.{IsPayload, IsPayloadShape, is_payload_row}
 use Rattle.linkinfo_table.specs.Rows.{
+  alike_in,
   labelled,
+  meaning_in,
+  memory_in,
   row_alike,
   row_meaning,
   row_needs_memory,
@@ -134,6 +141,40 @@ has_payload {shape = shape} {nested = nested} = record {
   typed = λ inside number suits payload.
       (payload, λ peer. peer_unflagged shape nested number suits peer);
 }
+
+-- ---- at a row with such a payload
+
+-- a label does not change whether a payload is accepted
+labelled_ok : {X F : Type 0} (f : Family) (number : ℕ) (label : X → F)
+    (r : Result X PayloadError) → is_ok (labelled f number label r) ≡ is_ok r
+labelled_ok f number label (Ok x) = refl
+labelled_ok f number label (Err e) = refl
+
+module _ {F : Type 0} (rows : ℕ → FamilyRow F) (a : Attribute) (k : ℕ) (at : masked a.kind ≡ k)
+    {shape : Shape} {nested : Bool} {codec : Codec} {label : codec.Carrier → F}
+    (row : HasPayload (rows k) shape nested codec label) where
+  pub row_needs : memory_in (λ n. row_of (rows n)) a ≡ codec.needs_memory a.value
+  unfolding memory_in
+  row_needs = ap (λ (n : ℕ). row_needs_memory (row_of (rows n)) a) at ∙ row.needs_memory a
+
+  pub row_compares : (b : Attribute) →
+      alike_in (λ n. row_of (rows n)) a b
+      ≡ ((masked b.kind == masked a.kind) && codec.alike a.value b.value)
+  unfolding alike_in
+  row_compares b = ap (λ (n : ℕ). row_alike (row_of (rows n)) a b) at ∙ row.alike a b
+
+  pub row_means : (f : Family) (other : DefaultNla → F) →
+      meaning_in f other (λ n. row_of (rows n)) a
+      ≡ labelled f (masked a.kind) label (codec.means a.value)
+  unfolding meaning_in
+  row_means f other =
+      ap (λ (n : ℕ). row_meaning f other (row_of (rows n)) a) at ∙ row.means f other a
+
+  -- an attribute of the row is accepted if its payload is
+  pub row_accepts : (f : Family) (other : DefaultNla → F) →
+      is_ok (meaning_in f other (λ n. row_of (rows n)) a) ≡ is_ok (codec.means a.value)
+  row_accepts f other =
+      ap is_ok (row_means f other) ∙ labelled_ok f (masked a.kind) label (codec.means a.value)
 
 -- ---- one such row before others
 

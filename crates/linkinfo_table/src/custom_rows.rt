@@ -18,20 +18,35 @@ ghost use Rattle.std.specs.Prelude.{
   false,
   true,
   [],
+  IfSome,
   IsOk,
   List,
   SomeIff,
+  is_ok,
   length,
 };
 ghost use Rattle.nla_frame.specs.Answers.{verdict};
 ghost use Rattle.nla_frame.specs.Attribute.{Attribute, Fits, buffer_len_of, masked};
 ghost use Rattle.nla_frame.specs.Writing.{Writes, WritesAttribute};
 ghost use Rattle.linkinfo_table.specs.Calls.{Checks, Compares, Pushes, Reads};
+ghost use Rattle.linkinfo_table.specs.Contents.{
+  Contents,
+  IsContent,
+  NoList,
+  contents_either,
+};
 ghost use Rattle.linkinfo_table.specs.CustomRows.{
+  either_contained,
   either_quarter,
   headers_either,
   none_owned,
   row_typed,
+};
+ghost use Rattle.linkinfo_table.specs.Difference.{
+  IsWithin,
+  attribute_difference,
+  attribute_error,
+  end_of,
 };
 ghost use Rattle.linkinfo_table.specs.FamilyMeaning.{
   alike_by,
@@ -42,19 +57,24 @@ ghost use Rattle.linkinfo_table.specs.FamilyMeaning.{
 ghost use Rattle.linkinfo_table.specs.FamilyRows.{IsFlat};
 ghost use Rattle.linkinfo_table.specs.FlatLaws.{none_inside};
 ghost use Rattle.linkinfo_table.specs.TypedRows.{IsTyped};
+ghost use Rattle.linkinfo_table.specs.Unmet.{IsUnmetWithin, attribute_unmet};
 ghost use Rattle.nla_frame.specs.declared.error.Family.{Family};
 
 use crate::canonical::{row_canonical_len, row_write_canonical};
+use crate::difference::{Difference, whole_difference};
+use crate::last::PlacedNla;
+use crate::located::whole_error;
 use crate::payload::LinkPayload;
 use crate::payload_calls::{
-    payload_check, payload_kind, payload_len, payload_push, payload_read, payload_same,
-    payload_write,
+    payload_check, payload_difference, payload_error, payload_kind, payload_len, payload_push,
+    payload_read, payload_same, payload_unmet, payload_write,
 };
 use crate::payload_row::PayloadRow;
 use crate::row_family::RowFamily;
 use crate::rows::{
     row_check, row_emit_payload, row_fit_len, row_kind, row_read, row_same, row_store,
 };
+use crate::unmet::{Unmet, unmet_as_whole};
 use nla_frame::{DecodeError, HeaderCount, NlaBuffer};
 use std::alloc::Global;
 
@@ -75,6 +95,9 @@ pub trait CustomRows<F: RowFamily> {
 
     /// The number of headers examined inside an attribute, up to the first error.
     ghost headers: { Attribute → ℕ };
+
+    /// What attributes of each type without flag bits contain.
+    ghost contents: { ℕ → Contents };
 
     /// Reads an attribute.
     ///
@@ -194,7 +217,53 @@ pub trait CustomRows<F: RowFamily> {
         requires room { length (F.canonical value.now).value ≤ length buffer.old }
         ensures { Writes (F.canonical value.now).value buffer.old buffer.new result };
 
+    /// The offset of the error of an attribute, in bytes from its header, or `None` if it is
+    /// accepted: that of the innermost attribute that has it, or of the bytes where no header is
+    /// accepted. Does not allocate.
+    fn error_offset(nla: &NlaBuffer<'_>, ctx: F::Context) -> Option<usize>
+        requires flat { owned (masked nla.now.kind) ≡ false →
+            IsFlat (F.rows ctx (masked nla.now.kind)) }
+        ensures error { result
+            ≡ attribute_error contents (λ a. is_ok (meaning_by F.RowFamily.own ctx a)) nla.now }
+        ensures within { IfSome result (λ n. n ≤ 4 + length nla.now.value) };
+
+    /// The first difference of two attributes of one type, or `None` if they are equivalent: in
+    /// their lists if they contain lists, otherwise of both as a whole. Requires that each is
+    /// accepted. Does not allocate.
+    fn difference(a: &PlacedNla<'_>, b: &PlacedNla<'_>, ctx: F::Context) -> Option<Difference>
+        requires first { IsOk (meaning_by F.RowFamily.own ctx a.now.nla) }
+        requires second { IsOk (meaning_by F.RowFamily.own ctx b.now.nla) }
+        requires same_type { masked b.now.nla.kind ≡ masked a.now.nla.kind }
+        requires first_room { end_of a.now < 2 ^ 64 }
+        requires second_room { end_of b.now < 2 ^ 64 }
+        requires flat { owned (masked a.now.nla.kind) ≡ false →
+            IsFlat (F.rows ctx (masked a.now.nla.kind)) }
+        ensures difference { result
+            ≡ attribute_difference contents F.FAMILY (alike_by F.RowFamily.own ctx)
+            a.now b.now }
+        ensures within { IfSome result (IsWithin (end_of a.now) (end_of b.now)) };
+
+    /// What of the attribute `want` the attribute `have` of its type does not meet: the first
+    /// attribute that is not met in its list, if it contains one, otherwise all of it. Requires
+    /// that each is accepted. Does not allocate.
+    fn unmet(have: &PlacedNla<'_>, want: &PlacedNla<'_>, ctx: F::Context) -> Option<Unmet>
+        requires have { IsOk (meaning_by F.RowFamily.own ctx have.now.nla) }
+        requires want { IsOk (meaning_by F.RowFamily.own ctx want.now.nla) }
+        requires same_type { masked have.now.nla.kind ≡ masked want.now.nla.kind }
+        requires have_room { end_of have.now < 2 ^ 64 }
+        requires want_room { end_of want.now < 2 ^ 64 }
+        requires flat { owned (masked want.now.nla.kind) ≡ false →
+            IsFlat (F.rows ctx (masked want.now.nla.kind)) }
+        ensures unmet { result
+            ≡ attribute_unmet contents F.FAMILY (alike_by F.RowFamily.own ctx)
+            have.now want.now }
+        ensures within { IfSome result (IsUnmetWithin (end_of want.now) (end_of have.now)) };
+
     ghost typed: { (c : F.Context) (n : ℕ) → owned n ≡ true → IsTyped inside (F.rows c n) };
+
+    ghost contained: { (c : F.Context) (n : ℕ) →
+        IsContent (contents n) n (λ a. is_ok (meaning_by F.RowFamily.own c a))
+        (alike_by F.RowFamily.own c) };
 
     ghost quarter: { (a : Attribute) → 4 * headers a ≤ length a.value };
 }
@@ -208,7 +277,11 @@ impl<F: RowFamily> CustomRows<F> for () {
 
     ghost headers = { λ _. 0 };
 
+    ghost contents = { λ _. NoList };
+
     ghost typed = { λ _ _. none_owned };
+
+    ghost contained = { λ _ _. tt };
 
     ghost quarter = { none_inside };
 
@@ -282,6 +355,21 @@ impl<F: RowFamily> CustomRows<F> for () {
     fn emit(value: &F, buffer: &mut [u8]) -> usize {
         row_emit_payload(value, buffer)
     }
+
+    fn error_offset(nla: &NlaBuffer<'_>, ctx: F::Context) -> Option<usize> {
+        whole_error(row_check::<F>(nla, ctx))
+    }
+
+    fn difference(a: &PlacedNla<'_>, b: &PlacedNla<'_>, ctx: F::Context) -> Option<Difference> {
+        let is_same = row_same::<F>(&a.nla, &b.nla, ctx);
+        whole_difference(F::FAMILY, is_same, a, b)
+    }
+
+    fn unmet(have: &PlacedNla<'_>, want: &PlacedNla<'_>, ctx: F::Context) -> Option<Unmet> {
+        let is_met = have.nla.value() == want.nla.value()
+            || row_same::<F>(&have.nla, &want.nla, ctx);
+        unmet_as_whole(F::FAMILY, is_met, have, want)
+    }
 }
 
 impl<F: RowFamily, R: PayloadRow<F>, Rest: CustomRows<F>> CustomRows<F> for (R, Rest) {
@@ -293,10 +381,16 @@ impl<F: RowFamily, R: PayloadRow<F>, Rest: CustomRows<F>> CustomRows<F> for (R, 
 
     ghost headers = { headers_either R.NUMBER R.Payload.headers Rest.headers };
 
+    ghost contents = { contents_either R.NUMBER R.Payload.contents Rest.contents };
+
     ghost typed = { λ c n.
         row_typed R.NUMBER R.Payload.inside Rest.inside Rest.owned (F.rows c)
         ((R.row_is c).typed R.Payload.inside R.NUMBER R.suits R.Payload.LinkPayload.lawful) n
         (Rest.typed c n) };
+
+    ghost contained = { λ c n.
+        either_contained F.RowFamily.own c R.NUMBER R.Payload.LinkPayload.own R.label R.NESTED
+        (R.row_is c) R.Payload.contained Rest.contents (Rest.contained c) n };
 
     ghost quarter = { λ a.
         either_quarter R.NUMBER R.Payload.headers Rest.headers
@@ -403,6 +497,30 @@ impl<F: RowFamily, R: PayloadRow<F>, Rest: CustomRows<F>> CustomRows<F> for (R, 
         match R::payload(value) {
             Some(payload) => payload.emit(buffer),
             None => Rest::emit(value, buffer),
+        }
+    }
+
+    fn error_offset(nla: &NlaBuffer<'_>, ctx: F::Context) -> Option<usize> {
+        if nla.kind() == R::NUMBER {
+            payload_error::<F, R>(nla, ctx)
+        } else {
+            Rest::error_offset(nla, ctx)
+        }
+    }
+
+    fn difference(a: &PlacedNla<'_>, b: &PlacedNla<'_>, ctx: F::Context) -> Option<Difference> {
+        if a.nla.kind() == R::NUMBER {
+            payload_difference::<F, R>(a, b, ctx)
+        } else {
+            Rest::difference(a, b, ctx)
+        }
+    }
+
+    fn unmet(have: &PlacedNla<'_>, want: &PlacedNla<'_>, ctx: F::Context) -> Option<Unmet> {
+        if want.nla.kind() == R::NUMBER {
+            payload_unmet::<F, R>(have, want, ctx)
+        } else {
+            Rest::unmet(have, want, ctx)
         }
     }
 }

@@ -14,6 +14,7 @@ ghost use Rattle.std.specs.Prelude.{
   Bool,
   false,
   Err,
+  IfSome,
   Ok,
   IsOk,
   List,
@@ -21,6 +22,7 @@ ghost use Rattle.std.specs.Prelude.{
   Result,
   SomeIff,
   drop,
+  is_ok,
   length,
 };
 ghost use Rattle.nla_frame.specs.Answers.{verdict};
@@ -38,11 +40,22 @@ ghost use Rattle.nla_frame.specs.declared.error.DecodeError.{DecodeError};
 ghost use Rattle.nla_frame.specs.declared.error.Family.{Family};
 ghost use Rattle.nla_frame.specs.Writing.{WritesAttribute};
 ghost use Rattle.linkinfo_table.specs.Calls.{Checks, Compares, Pushes, Reads};
+ghost use Rattle.linkinfo_table.specs.Contents.{Contents};
+ghost use Rattle.linkinfo_table.specs.Difference.{
+  IsWithin,
+  attribute_difference,
+  attribute_error,
+  end_of,
+};
 ghost use Rattle.linkinfo_table.specs.Lookups.{HoldsNone, LookupSays};
 ghost use Rattle.linkinfo_table.specs.Members.{IsFamily, members_at};
+ghost use Rattle.linkinfo_table.specs.Unmet.{IsUnmetWithin, attribute_unmet};
 ghost use Rattle.linkinfo_table.specs.declared.lookup.Lookup.{Lookup};
 
+use crate::difference::Difference;
+use crate::last::PlacedNla;
 use crate::lookup::Lookup;
+use crate::unmet::Unmet;
 use nla_frame::{DecodeError, Family, HeaderCount, Nla, NlaBuffer};
 use std::alloc::Global;
 
@@ -59,6 +72,11 @@ pub trait LinkFamily: Nla + Sized + Drop {
     const FAMILY: Family;
 
     ghost FAMILY: { Family };
+
+    /// Whether a list of the attributes is a set: in any order, and a request adds to it.
+    const IS_SET: bool;
+
+    ghost IS_SET: { Bool };
 
     /// The families of the attributes in lists inside an attribute, at every depth. A list of the
     /// family itself adds none.
@@ -84,6 +102,9 @@ pub trait LinkFamily: Nla + Sized + Drop {
 
     /// Whether a value is well formed: an attribute can mean it.
     ghost well: { Self.Context → Self → Type 0 };
+
+    /// What attributes of each type without flag bits contain.
+    ghost contents: { Self.Context → ℕ → Contents };
 
     /// How the family reads a type without flag bits: by a shape, by a cause that rejects it, or as
     /// an opaque attribute.
@@ -163,6 +184,47 @@ pub trait LinkFamily: Nla + Sized + Drop {
         ensures { WritesAttribute (attribute_for Self.attribute (meaning ctx nla.now))
             buffer.old buffer.new result };
 
+    /// Returns the offset of the error of an attribute, in bytes from its header, or `None` if the
+    /// attribute is accepted.
+    ///
+    /// It is the offset of the innermost attribute that has the error, or of the bytes where no
+    /// header is accepted: 0 if the error is the attribute's own. Does not allocate.
+    fn error_offset(nla: &NlaBuffer<'_>, ctx: Self::Context) -> Option<usize>
+        ensures error { result
+            ≡ attribute_error (contents ctx) (λ a. is_ok (meaning ctx a)) nla.now }
+        ensures within { IfSome result (λ n. n ≤ 4 + length nla.now.value) };
+
+    /// Returns the first difference of two attributes of one type, or `None` if they are
+    /// equivalent: in their lists if they contain lists, otherwise of both as a whole.
+    ///
+    /// Offsets are in bytes from the beginning of the lists that the attributes are in. Requires
+    /// that each is accepted. Does not allocate.
+    fn difference(a: &PlacedNla<'_>, b: &PlacedNla<'_>, ctx: Self::Context) -> Option<Difference>
+        requires first { IsOk (meaning ctx a.now.nla) }
+        requires second { IsOk (meaning ctx b.now.nla) }
+        requires same_type { masked b.now.nla.kind ≡ masked a.now.nla.kind }
+        requires first_room { end_of a.now < 2 ^ 64 }
+        requires second_room { end_of b.now < 2 ^ 64 }
+        ensures difference { result
+            ≡ attribute_difference (contents ctx) FAMILY (alike ctx) a.now b.now }
+        ensures within { IfSome result (IsWithin (end_of a.now) (end_of b.now)) };
+
+    /// Returns what of the attribute `want` the attribute `have` of its type does not meet: the
+    /// first attribute that is not met in its list, if it contains one, otherwise all of it.
+    ///
+    /// An attribute is met by an equal payload, and by an equivalent attribute. A list of the
+    /// family itself is met as a whole. Offsets are in bytes from the beginning of the lists that
+    /// the attributes are in. Requires that each is accepted. Does not allocate.
+    fn unmet(have: &PlacedNla<'_>, want: &PlacedNla<'_>, ctx: Self::Context) -> Option<Unmet>
+        requires have { IsOk (meaning ctx have.now.nla) }
+        requires want { IsOk (meaning ctx want.now.nla) }
+        requires same_type { masked have.now.nla.kind ≡ masked want.now.nla.kind }
+        requires have_room { end_of have.now < 2 ^ 64 }
+        requires want_room { end_of want.now < 2 ^ 64 }
+        ensures unmet { result
+            ≡ attribute_unmet (contents ctx) FAMILY (alike ctx) have.now want.now }
+        ensures within { IfSome result (IsUnmetWithin (end_of want.now) (end_of have.now)) };
+
     ghost keeps: { (nla : DefaultNla) → Self.attribute (keeping nla) ≡ attribute_of nla };
 
     ghost looked_up: { (c : Self.Context) (a : Attribute) →
@@ -171,7 +233,7 @@ pub trait LinkFamily: Nla + Sized + Drop {
 
     ghost lawful: { (c : Self.Context) →
         IsFamily (members_at FAMILY inside meaning headers alike needs_memory Self.attribute well
-        c) };
+        contents IS_SET c) };
 
     ghost error_certain: { (c : Self.Context) (a : Attribute) (e : DecodeError) →
         HoldsNone (lookup c (masked a.kind)) → meaning c a ≡ Err e → needs_memory c a ≡ false };

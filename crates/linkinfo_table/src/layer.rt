@@ -1,7 +1,6 @@
 //! Layers: what other layers supply to link info, as one type.
 
-ghost use Rattle.linkinfo_table.specs.Layers.{Families, HaveOneType};
-ghost use Rattle.linkinfo_table.specs.OneType.{rows_type};
+ghost use Rattle.linkinfo_table.specs.Layers.{Families};
 
 use crate::family::LinkFamily;
 use crate::listed::ListedFamily;
@@ -47,13 +46,6 @@ pub trait LinkLayer {
 
     /// Attributes of ports of a `bridge` link (`IFLA_BRPORT_*`).
     type BridgePort: LinkFamily<Context = ()> + Clone + Debug + Eq + ExactEq;
-
-    ghost one_type: { HaveOneType
-        (Self.Bond.LinkFamily.alike tt) (Self.Bridge.LinkFamily.alike tt)
-        (Self.Vlan.LinkFamily.alike tt) (Self.Can.LinkFamily.alike tt)
-        (Self.Hsr.LinkFamily.alike tt) (Self.Dsa.LinkFamily.alike tt)
-        (Self.Tun.LinkFamily.alike tt) (Self.BondPort.LinkFamily.alike tt)
-        (Self.BridgePort.LinkFamily.alike tt) };
 }
 
 /// The layer of a peer, whose families are opaque: each attribute is kept verbatim.
@@ -77,18 +69,6 @@ impl<P: LinkPeer> LinkLayer for P {
     type BondPort = InfoBondPort;
 
     type BridgePort = InfoBridgePort;
-
-    ghost one_type = { record {
-      bond_type = rows_type _;
-      bridge_type = rows_type _;
-      vlan_type = rows_type _;
-      can_type = rows_type _;
-      hsr_type = rows_type _;
-      dsa_type = rows_type _;
-      tun_type = rows_type _;
-      bond_port_type = rows_type _;
-      bridge_port_type = rows_type _;
-    } };
 }
 
 /// All that the peer and the families of a layer define, in one record. Every layer implements it,

@@ -3,14 +3,19 @@
 ghost use Rattle.std.specs.Prelude.{◌∷◌, map};
 ghost use Rattle.nla_frame.specs.Attribute.{list_string};
 ghost use Rattle.nla_frame.specs.NlaItems.{nla_items};
+ghost use Rattle.linkinfo_table.specs.Contents.{ListOf, listed};
 ghost use Rattle.linkinfo_table.specs.Lists.{AllWell, alike_pairs, headers_of, memory_of, values};
-ghost use Rattle.linkinfo_table.specs.ListPayload.{list_is_payload};
+ghost use Rattle.linkinfo_table.specs.ListPayload.{list_contained, list_is_payload};
 ghost use Rattle.linkinfo_table.specs.SelfList.{inside};
 ghost use Rattle.linkinfo_shapes.specs.declared.shape.Shape.TheVariants.{Nested};
 
+use crate::difference::{Difference, list_difference};
 use crate::family::LinkFamily;
+use crate::last::PlacedNla;
 use crate::list::{list_check, list_measure, list_read, list_same, list_write_canonical};
+use crate::located::list_error;
 use crate::payload::LinkPayload;
+use crate::unmet::{Unmet, list_unmet};
 use nla_frame::{
     DecodeError, ExactEq, Family, HeaderCount, Nlas, fitting, nlas_fit_len, write_attributes,
 };
@@ -35,9 +40,17 @@ impl<F: LinkFamily<Context = ()> + Eq + ExactEq> LinkPayload for Nlas<F> {
 
     ghost needs_memory = { λ p. memory_of (F.meaning tt) (F.needs_memory tt) (nla_items p) };
 
+    ghost contents = { ListOf
+        (listed F.LinkFamily.FAMILY (F.meaning tt) (F.alike tt) F.LinkFamily.IS_SET)
+        (F.contents tt) };
+
+    ghost contained = { list_contained F.LinkFamily.FAMILY F.LinkFamily.inside F.meaning F.headers
+        F.alike F.needs_memory F.attribute F.well F.contents F.LinkFamily.IS_SET
+        (F.LinkFamily.lawful tt) };
+
     ghost lawful = { list_is_payload F.LinkFamily.FAMILY F.LinkFamily.inside F.keeping F.lookup
-        F.meaning F.headers F.alike F.needs_memory F.attribute F.well F.LinkFamily.lawful
-        F.looked_up tt };
+        F.meaning F.headers F.alike F.needs_memory F.attribute F.well F.contents
+        F.LinkFamily.IS_SET F.LinkFamily.lawful F.looked_up tt };
 
     fn read(
         alloc: Global,
@@ -79,5 +92,20 @@ impl<F: LinkFamily<Context = ()> + Eq + ExactEq> LinkPayload for Nlas<F> {
 
     fn write_canonical(payload: &[u8], buffer: &mut [u8]) -> usize {
         list_write_canonical::<F>(payload, (), buffer)
+    }
+
+    fn error_offset(payload: &[u8]) -> Option<usize> {
+        let inside = list_error::<F>(payload, ())?;
+        Some(4 + inside)
+    }
+
+    fn difference(_family: Family, a: &PlacedNla<'_>, b: &PlacedNla<'_>) -> Option<Difference> {
+        let inside = list_difference::<F>(a.nla.value(), b.nla.value(), ())?;
+        Some(inside.inside(a, b))
+    }
+
+    fn unmet(_family: Family, have: &PlacedNla<'_>, want: &PlacedNla<'_>) -> Option<Unmet> {
+        let inside = list_unmet::<F>(have.nla.value(), want.nla.value(), ())?;
+        Some(inside.inside(want, have))
     }
 }

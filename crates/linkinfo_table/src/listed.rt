@@ -14,5 +14,5 @@ pub trait ListedFamily: LinkFamily {
 impl<F: LinkFamily> ListedFamily for F {
     ghost members = { λ c.
         members_at F.LinkFamily.FAMILY F.LinkFamily.inside F.meaning F.headers F.alike
-        F.needs_memory F.attribute F.well c };
+        F.needs_memory F.attribute F.well F.contents F.IS_SET c };
 }

@@ -160,6 +160,10 @@ impl<const NUMBER: u8> Nla for Opaque<NUMBER> {
 impl<const NUMBER: u8> TableFamily for Opaque<NUMBER> {
     type Custom = ();
 
+    const IS_SET: bool = false;
+
+    ghost IS_SET = { false };
+
     ghost flat_elsewhere = { λ _ _ _. tt };
 
     ghost plain_elsewhere = { λ _ _. refl };

@@ -7,12 +7,15 @@ ghost use Rattle.std.specs.Prelude.{
   ◌<◌,
   ◌≤◌,
   ◌^◌,
+  ◌||◌,
   ℕ,
   Bool,
+  IfSome,
   IsOk,
   List,
   Result,
   SomeIff,
+  is_ok,
   length,
 };
 ghost use Rattle.nla_frame.specs.Answers.{verdict};
@@ -20,10 +23,22 @@ ghost use Rattle.nla_frame.specs.Canonical.{bytes_for};
 ghost use Rattle.nla_frame.specs.Writing.{Writes};
 ghost use Rattle.linkinfo_table.specs.Calls.{Checks, Compares, Reads};
 ghost use Rattle.linkinfo_table.specs.Codecs.{PayloadError};
+ghost use Rattle.linkinfo_table.specs.Contents.{Contents, IsPayloadContent};
+ghost use Rattle.linkinfo_table.specs.Difference.{
+  IsWithin,
+  end_of,
+  payload_difference,
+  payload_error,
+};
 ghost use Rattle.linkinfo_table.specs.Payloads.{IsPayload, codec_with, placed};
+ghost use Rattle.linkinfo_table.specs.Unmet.{IsUnmetWithin, payload_unmet};
 ghost use Rattle.linkinfo_shapes.specs.declared.shape.Shape.{Shape};
 ghost use Rattle.nla_frame.specs.declared.error.Family.{Family};
+ghost use Rattle.std.specs.Str.{bytes_eq};
 
+use crate::difference::Difference;
+use crate::last::PlacedNla;
+use crate::unmet::Unmet;
 use nla_frame::{DecodeError, ExactEq, Family, HeaderCount};
 use std::alloc::Global;
 
@@ -53,6 +68,9 @@ pub trait LinkPayload: Sized + Eq + ExactEq + Drop {
 
     /// Whether reading a payload may allocate.
     ghost needs_memory: { List ℕ → Bool };
+
+    /// What payloads contain.
+    ghost contents: { Contents };
 
     /// Reads the payload of an attribute of this family and type without flag bits.
     ///
@@ -124,6 +142,52 @@ pub trait LinkPayload: Sized + Eq + ExactEq + Drop {
         requires fits { length (bytes_for canon (means payload.now)) ≤ 65531 }
         requires room { length (bytes_for canon (means payload.now)) ≤ length buffer.old }
         ensures { Writes (bytes_for canon (means payload.now)) buffer.old buffer.new result };
+
+    /// Returns the offset of the error of an attribute with this payload, in bytes from the
+    /// attribute's header, or `None` if the payload is accepted.
+    ///
+    /// It is the offset of the innermost attribute that has the error, or of the bytes where no
+    /// header is accepted: 0 if the error is the payload's own. Does not allocate.
+    fn error_offset(payload: &[u8]) -> Option<usize>
+        ensures error { result ≡ payload_error contents (is_ok (means payload.now)) payload.now }
+        ensures within { IfSome result (λ n. n ≤ 4 + length payload.now) };
+
+    /// Returns the first difference of two attributes of this family with such payloads, or `None`
+    /// if the payloads are equivalent: in their lists if they are lists, otherwise of both
+    /// attributes as a whole.
+    ///
+    /// Offsets are in bytes from the beginning of the lists that the attributes are in. Requires
+    /// that each payload is accepted. Does not allocate.
+    fn difference(family: Family, a: &PlacedNla<'_>, b: &PlacedNla<'_>) -> Option<Difference>
+        requires first { IsOk (means a.now.nla.value) }
+        requires second { IsOk (means b.now.nla.value) }
+        requires first_room { end_of a.now < 2 ^ 64 }
+        requires second_room { end_of b.now < 2 ^ 64 }
+        ensures difference { result
+            ≡ payload_difference contents family (alike a.now.nla.value b.now.nla.value)
+            a.now b.now }
+        ensures within { IfSome result (IsWithin (end_of a.now) (end_of b.now)) };
+
+    /// Returns what of the attribute `want` of this family the attribute `have`, both with such
+    /// payloads, does not meet: the first attribute that is not met in its list, if it contains
+    /// one, otherwise all of it. Equal and equivalent payloads meet one another.
+    ///
+    /// Offsets are in bytes from the beginning of the lists that the attributes are in. Requires
+    /// that each payload is accepted. Does not allocate.
+    fn unmet(family: Family, have: &PlacedNla<'_>, want: &PlacedNla<'_>) -> Option<Unmet>
+        requires have { IsOk (means have.now.nla.value) }
+        requires want { IsOk (means want.now.nla.value) }
+        requires have_room { end_of have.now < 2 ^ 64 }
+        requires want_room { end_of want.now < 2 ^ 64 }
+        ensures unmet { result
+            ≡ payload_unmet contents family
+            (bytes_eq have.now.nla.value want.now.nla.value
+            || alike have.now.nla.value want.now.nla.value)
+            have.now want.now }
+        ensures within { IfSome result (IsUnmetWithin (end_of want.now) (end_of have.now)) };
+
+    /// What payloads contain agrees with which are accepted, and which two are equivalent.
+    ghost contained: { IsPayloadContent contents (λ p. is_ok (means p)) alike };
 
     ghost lawful: { IsPayload shape inside
         (codec_with means canon holds alike headers needs_memory) };

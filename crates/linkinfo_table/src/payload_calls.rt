@@ -1,11 +1,29 @@
 //! The calls on an attribute of a row whose payloads are values of a type of their own.
 
-ghost use Rattle.std.specs.Prelude.{◌≡◌, ◌+◌, ◌/◌, ◌<◌, ◌≤◌, ◌^◌, IsOk, SomeIff, length};
+ghost use Rattle.std.specs.Prelude.{
+  ◌≡◌,
+  ◌+◌,
+  ◌/◌,
+  ◌<◌,
+  ◌≤◌,
+  ◌^◌,
+  IfSome,
+  IsOk,
+  SomeIff,
+  is_ok,
+  length,
+};
 ghost use Rattle.nla_frame.specs.Answers.{verdict};
 ghost use Rattle.nla_frame.specs.Attribute.{Fits, buffer_len_of, masked};
 ghost use Rattle.nla_frame.specs.Canonical.{bytes_for};
 ghost use Rattle.nla_frame.specs.Writing.{WritesAttribute};
 ghost use Rattle.linkinfo_table.specs.Calls.{Checks, Compares, Pushes, Reads};
+ghost use Rattle.linkinfo_table.specs.Difference.{
+  IsWithin,
+  end_of,
+  payload_difference,
+  payload_error,
+};
 ghost use Rattle.linkinfo_table.specs.FamilyMeaning.{
   alike_by,
   canonical_by,
@@ -14,10 +32,14 @@ ghost use Rattle.linkinfo_table.specs.FamilyMeaning.{
 };
 ghost use Rattle.linkinfo_table.specs.Payloads.{wrapped};
 ghost use Rattle.linkinfo_table.specs.Rows.{written_kind};
+ghost use Rattle.linkinfo_table.specs.Unmet.{IsUnmetWithin, meets, payload_unmet};
 
+use crate::difference::Difference;
+use crate::last::PlacedNla;
 use crate::payload::LinkPayload;
 use crate::payload_row::PayloadRow;
 use crate::row_family::RowFamily;
+use crate::unmet::Unmet;
 use nla_frame::{DecodeError, HeaderCount, NlaBuffer, write_frame};
 use std::alloc::Global;
 
@@ -169,4 +191,61 @@ fn write_framed<F: RowFamily, R: PayloadRow<F>>(nla: &NlaBuffer<'_>, buffer: &mu
     let len = R::Payload::write_canonical(nla.value(), &mut buffer[4..]);
     write_frame(buffer, payload_kind::<F, R>(), len);
     4 + len.next_multiple_of(4)
+}
+
+/// The offset of the error of an attribute of the row, in bytes from its header, or `None` if the
+/// attribute is accepted. Does not allocate.
+pub fn payload_error<F: RowFamily, R: PayloadRow<F>>(
+    nla: &NlaBuffer<'_>,
+    ctx: F::Context,
+) -> Option<usize>
+    requires row { masked nla.now.kind ≡ R.NUMBER }
+    ensures error { result
+        ≡ payload_error R.Payload.contents (is_ok (meaning_by F.RowFamily.own ctx nla.now))
+        nla.now.value }
+    ensures within { IfSome result (λ n. n ≤ 4 + length nla.now.value) }
+{
+    R::Payload::error_offset(nla.value())
+}
+
+/// The first difference of two attributes of the row, or `None` if they are equivalent. Requires
+/// that each is accepted. Does not allocate.
+pub fn payload_difference<F: RowFamily, R: PayloadRow<F>>(
+    a: &PlacedNla<'_>,
+    b: &PlacedNla<'_>,
+    ctx: F::Context,
+) -> Option<Difference>
+    requires first { IsOk (meaning_by F.RowFamily.own ctx a.now.nla) }
+    requires second { IsOk (meaning_by F.RowFamily.own ctx b.now.nla) }
+    requires row { masked a.now.nla.kind ≡ R.NUMBER }
+    requires same_type { masked b.now.nla.kind ≡ masked a.now.nla.kind }
+    requires first_room { end_of a.now < 2 ^ 64 }
+    requires second_room { end_of b.now < 2 ^ 64 }
+    ensures difference { result
+        ≡ payload_difference R.Payload.contents F.FAMILY
+        (alike_by F.RowFamily.own ctx a.now.nla b.now.nla) a.now b.now }
+    ensures within { IfSome result (IsWithin (end_of a.now) (end_of b.now)) }
+{
+    R::Payload::difference(F::FAMILY, a, b)
+}
+
+/// What of the attribute `want` of the row the attribute `have` of it does not meet. Requires that
+/// each is accepted. Does not allocate.
+pub fn payload_unmet<F: RowFamily, R: PayloadRow<F>>(
+    have: &PlacedNla<'_>,
+    want: &PlacedNla<'_>,
+    ctx: F::Context,
+) -> Option<Unmet>
+    requires have { IsOk (meaning_by F.RowFamily.own ctx have.now.nla) }
+    requires want { IsOk (meaning_by F.RowFamily.own ctx want.now.nla) }
+    requires row { masked want.now.nla.kind ≡ R.NUMBER }
+    requires same_type { masked have.now.nla.kind ≡ masked want.now.nla.kind }
+    requires have_room { end_of have.now < 2 ^ 64 }
+    requires want_room { end_of want.now < 2 ^ 64 }
+    ensures unmet { result
+        ≡ payload_unmet R.Payload.contents F.FAMILY
+        (meets (alike_by F.RowFamily.own ctx) have.now.nla want.now.nla) have.now want.now }
+    ensures within { IfSome result (IsUnmetWithin (end_of want.now) (end_of have.now)) }
+{
+    R::Payload::unmet(F::FAMILY, have, want)
 }

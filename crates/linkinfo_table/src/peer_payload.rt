@@ -4,10 +4,14 @@ ghost use Rattle.std.specs.Prelude.{◌≡◌, [], true};
 ghost use Rattle.nla_frame.specs.Error.{memory_error};
 ghost use Rattle.nla_frame.specs.declared.error.Cause.TheVariants as cause;
 ghost use Rattle.linkinfo_shapes.specs.declared.shape.Shape.TheVariants.{Peer};
+ghost use Rattle.linkinfo_table.specs.Contents.{NoList};
 ghost use Rattle.linkinfo_table.specs.Peers.{peer_is_payload, peer_or_error};
 
+use crate::difference::{Difference, whole_difference};
+use crate::last::PlacedNla;
 use crate::payload::LinkPayload;
 use crate::peer::{LinkPeer, PeerFault};
+use crate::unmet::{Unmet, unmet_as_whole};
 use nla_frame::{Cause, DecodeError, Family, HeaderCount};
 use std::alloc::Global;
 
@@ -28,6 +32,10 @@ impl<P: LinkPeer> LinkPayload for P {
     ghost headers = { λ _. 0 };
 
     ghost needs_memory = { λ _. true };
+
+    ghost contents = { NoList };
+
+    ghost contained = { tt };
 
     ghost lawful = { peer_is_payload P.LinkPeer.meaning P.LinkPeer.alike P.LinkPeer.canonical
         P.LinkPeer.well P.LinkPeer.lawful };
@@ -83,6 +91,25 @@ impl<P: LinkPeer> LinkPayload for P {
 
     fn write_canonical(payload: &[u8], buffer: &mut [u8]) -> usize {
         <P as LinkPeer>::write_canonical(payload, buffer)
+    }
+
+    fn error_offset(payload: &[u8]) -> Option<usize> {
+        if <P as LinkPeer>::check(payload) {
+            None
+        } else {
+            Some(0)
+        }
+    }
+
+    fn difference(family: Family, a: &PlacedNla<'_>, b: &PlacedNla<'_>) -> Option<Difference> {
+        let is_same = <P as LinkPeer>::same(a.nla.value(), b.nla.value());
+        whole_difference(family, is_same, a, b)
+    }
+
+    fn unmet(family: Family, have: &PlacedNla<'_>, want: &PlacedNla<'_>) -> Option<Unmet> {
+        let is_met = have.nla.value() == want.nla.value()
+            || <P as LinkPeer>::same(have.nla.value(), want.nla.value());
+        unmet_as_whole(family, is_met, have, want)
     }
 }
 

@@ -1,6 +1,6 @@
 //! A family of which each row is one of its own, or has a shape of the table, is a `LinkFamily`.
 
-ghost use Rattle.std.specs.Prelude.{◌≡◌, ℕ, false};
+ghost use Rattle.std.specs.Prelude.{◌≡◌, ℕ, Bool, false};
 ghost use Rattle.std.proofs.Common.{◌∙◌};
 ghost use Rattle.linkinfo_table.specs.FamilyMeaning.{alike_by, meaning_by, memory_by};
 ghost use Rattle.linkinfo_table.specs.FamilyRows.{IsFlat, lookup_of, row_of};
@@ -8,9 +8,12 @@ ghost use Rattle.linkinfo_table.specs.Rows.{WellFormed};
 ghost use Rattle.linkinfo_table.specs.TableFamily.{each_typed, table_lawful};
 
 use crate::custom_rows::CustomRows;
+use crate::difference::Difference;
 use crate::family::LinkFamily;
+use crate::last::PlacedNla;
 use crate::lookup::Lookup;
 use crate::row_family::RowFamily;
+use crate::unmet::Unmet;
 use nla_frame::{DecodeError, Family, HeaderCount, Nla, NlaBuffer};
 use std::alloc::Global;
 
@@ -20,6 +23,11 @@ pub trait TableFamily: RowFamily + Nla + Drop {
     /// The rows whose payloads are values of types of their own: `()` for none, else a pair of the
     /// first one and the others.
     type Custom: CustomRows<Self>;
+
+    /// Whether a list of the attributes is a set: in any order, and a request adds to it.
+    const IS_SET: bool;
+
+    ghost IS_SET: { Bool };
 
     ghost flat_elsewhere: { (c : Self.Context) (n : ℕ) → Self.Custom.owned n ≡ false →
         IsFlat (Self.rows c n) };
@@ -37,6 +45,10 @@ impl<F: TableFamily> LinkFamily for F {
 
     ghost FAMILY = { F.RowFamily.FAMILY };
 
+    const IS_SET: bool = <F as TableFamily>::IS_SET;
+
+    ghost IS_SET = { F.TableFamily.IS_SET };
+
     ghost inside = { F.Custom.inside };
 
     ghost lookup = { λ c n. lookup_of (F.rows c n) };
@@ -53,6 +65,8 @@ impl<F: TableFamily> LinkFamily for F {
 
     ghost well = { λ c x. WellFormed F.other F.canonical (λ n. row_of (F.rows c n)) x };
 
+    ghost contents = { λ _ n. F.Custom.contents n };
+
     ghost keeps = { λ nla. F.written (F.other nla) ∙ F.keeps_other nla };
 
     ghost looked_up = { λ c a.
@@ -65,7 +79,7 @@ impl<F: TableFamily> LinkFamily for F {
         (table_lawful F.other F.canonical F.attribute F.written (F.rows c) F.Custom.headers
         F.Custom.inside (each_typed (F.rows c) F.Custom.inside F.Custom.owned (F.Custom.typed c)
         (F.flat_elsewhere c)) (F.owes c) F.keeps_other F.Custom.quarter).laws
-        F.RowFamily.FAMILY };
+        F.RowFamily.FAMILY F.Custom.contents F.TableFamily.IS_SET (F.Custom.contained c) };
 
     ghost error_certain = { λ c.
         (table_lawful F.other F.canonical F.attribute F.written (F.rows c) F.Custom.headers
@@ -125,5 +139,25 @@ impl<F: TableFamily> LinkFamily for F {
         buffer: &mut [u8],
     ) -> usize {
         <F as TableFamily>::Custom::write_canonical(nla, ctx, buffer)
+    }
+
+    fn error_offset(nla: &NlaBuffer<'_>, ctx: <F as RowFamily>::Context) -> Option<usize> {
+        <F as TableFamily>::Custom::error_offset(nla, ctx)
+    }
+
+    fn difference(
+        a: &PlacedNla<'_>,
+        b: &PlacedNla<'_>,
+        ctx: <F as RowFamily>::Context,
+    ) -> Option<Difference> {
+        <F as TableFamily>::Custom::difference(a, b, ctx)
+    }
+
+    fn unmet(
+        have: &PlacedNla<'_>,
+        want: &PlacedNla<'_>,
+        ctx: <F as RowFamily>::Context,
+    ) -> Option<Unmet> {
+        <F as TableFamily>::Custom::unmet(have, want, ctx)
     }
 }

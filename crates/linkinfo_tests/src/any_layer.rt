@@ -34,16 +34,4 @@ impl LinkLayer for AnyLayer {
     type BondPort = InfoBondPort;
 
     type BridgePort = InfoBridgePort;
-
-    ghost one_type = { record {
-      bond_type = rows_type _;
-      bridge_type = rows_type _;
-      vlan_type = rows_type _;
-      can_type = rows_type _;
-      hsr_type = rows_type _;
-      dsa_type = rows_type _;
-      tun_type = rows_type _;
-      bond_port_type = rows_type _;
-      bridge_port_type = rows_type _;
-    } };
 }

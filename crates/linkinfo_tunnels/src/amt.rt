@@ -111,6 +111,10 @@ impl RowFamily for InfoAmt {
 impl TableFamily for InfoAmt {
     type Custom = ();
 
+    const IS_SET: bool = false;
+
+    ghost IS_SET = { false };
+
     ghost flat_elsewhere = { λ _ n _. table_flat amt_attribute amt_rows amt_keeps n };
 
     ghost plain_elsewhere = { λ _ _. refl };

@@ -98,6 +98,10 @@ impl RowFamily for InfoBareUdp {
 impl TableFamily for InfoBareUdp {
     type Custom = ();
 
+    const IS_SET: bool = false;
+
+    ghost IS_SET = { false };
+
     ghost flat_elsewhere = { λ _ n _.
         table_flat bare_udp_attribute bare_udp_rows bare_udp_keeps n };
 

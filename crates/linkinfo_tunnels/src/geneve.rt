@@ -138,6 +138,10 @@ impl RowFamily for InfoGeneve {
 impl TableFamily for InfoGeneve {
     type Custom = ();
 
+    const IS_SET: bool = false;
+
+    ghost IS_SET = { false };
+
     ghost flat_elsewhere = { λ _ n _. table_flat geneve_attribute geneve_rows geneve_keeps n };
 
     ghost plain_elsewhere = { λ _ _. refl };

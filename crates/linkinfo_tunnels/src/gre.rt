@@ -149,6 +149,10 @@ impl RowFamily for InfoGre {
 impl TableFamily for InfoGre {
     type Custom = ();
 
+    const IS_SET: bool = false;
+
+    ghost IS_SET = { false };
+
     ghost flat_elsewhere = { λ _ n _. table_flat gre_attribute gre_rows gre_keeps n };
 
     ghost plain_elsewhere = { λ _ _. refl };

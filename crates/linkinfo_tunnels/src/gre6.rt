@@ -152,6 +152,10 @@ impl RowFamily for InfoGre6 {
 impl TableFamily for InfoGre6 {
     type Custom = ();
 
+    const IS_SET: bool = false;
+
+    ghost IS_SET = { false };
+
     ghost flat_elsewhere = { λ _ n _. table_flat gre6_attribute gre6_rows gre6_keeps n };
 
     ghost plain_elsewhere = { λ _ _. refl };

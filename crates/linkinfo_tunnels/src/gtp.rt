@@ -110,6 +110,10 @@ impl RowFamily for InfoGtp {
 impl TableFamily for InfoGtp {
     type Custom = ();
 
+    const IS_SET: bool = false;
+
+    ghost IS_SET = { false };
+
     ghost flat_elsewhere = { λ _ n _. table_flat gtp_attribute gtp_rows gtp_keeps n };
 
     ghost plain_elsewhere = { λ _ _. refl };

@@ -229,6 +229,10 @@ impl Nla for InfoIpTunnel {
 impl TableFamily for InfoIpTunnel {
     type Custom = ();
 
+    const IS_SET: bool = false;
+
+    ghost IS_SET = { false };
+
     ghost flat_elsewhere = { λ tag n _. ip_tunnel_flat tag n };
 
     ghost plain_elsewhere = { λ _ _. refl };

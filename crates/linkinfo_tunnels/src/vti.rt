@@ -104,6 +104,10 @@ impl RowFamily for InfoVti {
 impl TableFamily for InfoVti {
     type Custom = ();
 
+    const IS_SET: bool = false;
+
+    ghost IS_SET = { false };
+
     ghost flat_elsewhere = { λ _ n _. table_flat vti_attribute vti_rows vti_keeps n };
 
     ghost plain_elsewhere = { λ _ _. refl };

@@ -198,6 +198,10 @@ impl RowFamily for InfoVxlan {
 impl TableFamily for InfoVxlan {
     type Custom = ();
 
+    const IS_SET: bool = false;
+
+    ghost IS_SET = { false };
+
     ghost flat_elsewhere = { λ _ n _. table_flat vxlan_attribute vxlan_rows vxlan_keeps n };
 
     ghost plain_elsewhere = { λ _ _. refl };

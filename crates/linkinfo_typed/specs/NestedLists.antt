@@ -23,10 +23,11 @@ use Rattle.nla_frame.specs.declared.error.DecodeError.{DecodeError}
 use Rattle.nla_frame.specs.declared.error.Family.{Family}
 use Rattle.linkinfo_shapes.specs.declared.shape.Shape.{Shape}
 use Rattle.linkinfo_table.specs.ByRows.{members_written_by_rows}
+use Rattle.linkinfo_table.specs.Contents.{Contents}
 use Rattle.linkinfo_table.specs.CustomRows.{headers_either}
 use Rattle.linkinfo_table.specs.FamilyRows.{FamilyRow, row_of}
 use Rattle.linkinfo_table.specs.Lists.{◌>>=◌, alike_pairs, headers_of, values}
-use Rattle.linkinfo_table.specs.Members.{Members, list_of}
+use Rattle.linkinfo_table.specs.Members.{Members, list_of, listed_of}
 use Rattle.linkinfo_table.specs.Rows.{alike_in, labelled, meaning_in, row_alike, row_meaning}
 use Rattle.linkinfo_table.specs.SelfList.{inside}
 use Rattle.linkinfo_table.specs.TypedRows.{HasPayload}
@@ -45,6 +46,8 @@ pub record HoldsListOf {X Y : Type 0} (f : Members X) (inner : Members Y) (numbe
       f.alike a b
       ≡ ((masked b.kind == number)
       && alike_pairs inner.alike (nla_items a.value) (nla_items b.value))
+  -- errors, differences and what is not met are looked for in that list
+  pub contains : f.contents number ≡ listed_of inner
   -- it is written with the type `kind`, and the canonical encoding of the list
   pub written : (xs : List Y) →
       f.attribute (label xs)
@@ -109,21 +112,24 @@ row_headers_are rows a number typed =
         ap (λ (others : ℕ). if masked a.kind == row.0 then row.1 a.value else others) (go rows)
 
 -- an attribute of a row with such a payload holds the list
-pub holds_list : {X Y : Type 0} {within : List Family} (family : Family) (other : DefaultNla → X)
+pub holds_list : {X Y : Type 0} {within : List Family} {contents : ℕ → Contents} {is_set : Bool}
+    (family : Family) (other : DefaultNla → X)
     (attribute : X → Attribute) (rows : ℕ → FamilyRow X) (lists : List (ℕ × (List ℕ → ℕ)))
     (inner : Members Y) (shape : Shape) (nested : Bool) (number kind : ℕ) (label : List Y → X) →
     HasPayload (rows number) shape nested (list_of inner) label →
     ((p : List ℕ) → first_of_type lists number p ≡ headers_in inner p) →
     ((xs : List Y) →
     attribute (label xs) ≡ record { kind = kind; value = list_string (map inner.attribute xs) }) →
+    contents number ≡ listed_of inner →
     HoldsListOf
-    (members_written_by_rows family other attribute rows attribute (headers_by lists) within) inner
-    number kind label
-holds_list family other attribute rows lists inner shape nested number kind label row count keeps =
-    record {
+    (members_written_by_rows family other attribute rows attribute (headers_by lists) within
+    contents is_set) inner number kind label
+holds_list family other attribute rows lists inner shape nested number kind label row count keeps
+    contains = record {
       means = row_means family other rows inner shape nested number label row;
       headers = λ a typed. row_headers_are lists a number typed ∙ count a.value;
       alike = λ a b typed.
           row_is_alike family other rows inner shape nested number label row a typed b;
+      contains = contains;
       written = keeps;
     }

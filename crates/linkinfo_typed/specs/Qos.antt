@@ -1,10 +1,11 @@
 -- Written by tables/generate from tables/vlanqosmapping.
 -- The rows of `IFLA_VLAN_EGRESS_QOS` and `IFLA_VLAN_INGRESS_QOS` of a `vlan` link.
-use Rattle.std.specs.Prelude.{List, [], ◌∷◌, refl}
+use Rattle.std.specs.Prelude.{true, List, [], ◌∷◌, refl}
 use Rattle.nla_frame.specs.Attribute.{Attribute}
 use Rattle.nla_frame.specs.Kept.{attribute_of}
 use Rattle.nla_frame.specs.declared.error.Family.TheVariants as family
-use Rattle.linkinfo_table.specs.ByRows.{members_by_rows, table_is_family}
+use Rattle.linkinfo_table.specs.ByRows.{members_with, table_is_family}
+use Rattle.linkinfo_table.specs.Contents.{NoList}
 use Rattle.linkinfo_table.specs.FamilyRows.{PlainRow, row, table_row, typed, EachKeeps}
 use Rattle.linkinfo_table.specs.Members.{IsFamily, Members}
 use Rattle.linkinfo_shapes.specs.declared.shape.Shape.TheVariants.{FlagPair}
@@ -28,8 +29,8 @@ vlan_qos_mapping_keeps = each_keeps vlan_qos_mapping_attribute vlan_qos_mapping_
 -- what the family defines, and that it is lawful
 abbrev pub vlan_qos_mapping_members : Members VlanQosMapping
 vlan_qos_mapping_members =
-    members_by_rows family.VlanQosMapping (λ d. Other d) vlan_qos_mapping_attribute
-    (λ n. table_row vlan_qos_mapping_rows n) (λ _. 0)
+    members_with family.VlanQosMapping (λ d. Other d) vlan_qos_mapping_attribute
+    (λ n. table_row vlan_qos_mapping_rows n) (λ _. 0) (λ _. NoList) true
 
 pub vlan_qos_mapping_lawful : IsFamily vlan_qos_mapping_members
 vlan_qos_mapping_lawful =

@@ -1,7 +1,6 @@
 //! The layer whose families have types.
 
 ghost use Rattle.linkinfo_table.specs.Layers.{Families};
-ghost use Rattle.linkinfo_table.specs.OneType.{rows_type};
 ghost use Rattle.linkinfo_typed.specs.TypedTypes.{typed_types};
 ghost use Rattle.nla_frame.specs.declared.bytes.Bytes.{Bytes};
 
@@ -44,18 +43,6 @@ impl<P: LinkPeer> LinkLayer for Typed<P> {
     type BondPort = InfoBondPort;
 
     type BridgePort = InfoBridgePort;
-
-    ghost one_type = { record {
-      bond_type = rows_type _;
-      bridge_type = rows_type _;
-      vlan_type = rows_type _;
-      can_type = rows_type _;
-      hsr_type = rows_type _;
-      dsa_type = rows_type _;
-      tun_type = rows_type _;
-      bond_port_type = rows_type _;
-      bridge_port_type = rows_type _;
-    } };
 }
 
 /// What the typed layer over peers that are kept as bytes defines.

@@ -11,7 +11,7 @@ ghost use Rattle.linkinfo_table.specs.FamilyMeaning.{table_meaning, table_memory
 ghost use Rattle.linkinfo_table.specs.FamilyRowLaws.{table_flat, table_owes};
 ghost use Rattle.linkinfo_table.specs.FamilyRows.{table_row};
 ghost use Rattle.nla_frame.specs.declared.error.Family.TheVariants as family;
-ghost use Rattle.std.specs.Prelude.{◌≡◌, false, refl};
+ghost use Rattle.std.specs.Prelude.{◌≡◌, false, true, refl};
 
 use linkinfo_table::{
     Decoded, Encodable, Lookup, RowFamily, Slot, TableFamily, clone_by_rows, encodable_by_rows,
@@ -93,6 +93,10 @@ impl RowFamily for VlanQosMapping {
 
 impl TableFamily for VlanQosMapping {
     type Custom = ();
+
+    const IS_SET: bool = true;
+
+    ghost IS_SET = { true };
 
     ghost flat_elsewhere = { λ _ n _.
         table_flat vlan_qos_mapping_attribute vlan_qos_mapping_rows vlan_qos_mapping_keeps n };

@@ -207,6 +207,10 @@ impl<T> PayloadRow<InfoVlan> for IngressQosRow<T> {
 impl TableFamily for InfoVlan {
     type Custom = (EgressQosRow<()>, (IngressQosRow<()>, ()));
 
+    const IS_SET: bool = false;
+
+    ghost IS_SET = { false };
+
     ghost flat_elsewhere = { λ _ n. vlan_flat n };
 
     ghost plain_elsewhere = { vlan_elsewhere };

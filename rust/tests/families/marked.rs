@@ -116,6 +116,8 @@ type Rows = (FlaggedRow<()>, (ListedRow<()>, ()));
 
 impl TableFamily for InfoMarked {
     type Custom = Rows;
+
+    const IS_SET: bool = false;
 }
 
 impl Nla for InfoMarked {

@@ -62,6 +62,8 @@ impl RowFamily for InfoVlanRow {
 
 impl TableFamily for InfoVlanRow {
     type Custom = ();
+
+    const IS_SET: bool = false;
 }
 
 impl Nla for InfoVlanRow {

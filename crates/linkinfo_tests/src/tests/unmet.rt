@@ -153,10 +153,10 @@ fn unmet_of<D: Drop, F: PayloadFamily<D>>(
     have: &[u8],
     want: &[u8],
 ) -> Option<Unmet> {
-    let name = family.listing().expect(rt, "a list");
+    let _name = family.listing().expect(rt, "a list");
     check_payload::<D, F>(family, have, &mut HeaderCount::new()).expect(rt, "accepted");
     check_payload::<D, F>(family, want, &mut HeaderCount::new()).expect(rt, "accepted");
-    list_unmet::<D, F>(family, name, have, want)
+    list_unmet::<D, F>(family, have, want)
 }
 
 /// Asserts what is not met in a case, of a family.

@@ -3,10 +3,11 @@
 //! Calls on payloads that return no parsed value: whether a payload is accepted, whether two are
 //! equivalent, how long the canonical payload is, and the canonical payload itself.
 
-use crate::layers::nla_frame::{DecodeError, HeaderCount, fitting, write_bytes};
+use crate::layers::nla_frame::{DecodeError, Family, HeaderCount, fitting, write_bytes};
 use crate::layers::table::{
-    LinkFamily, first_check, first_measure, first_same, first_write_canonical, list_check,
-    list_measure, list_same, list_write_canonical,
+    Difference, LinkFamily, Unmet, first_check, first_measure, first_same, first_write_canonical,
+    list_check, list_difference, list_error, list_measure, list_same, list_unmet,
+    list_write_canonical,
 };
 
 /// A call on payloads: lists of attributes, first attributes, or bytes. The family selects which
@@ -204,5 +205,153 @@ impl<'a> Ask for WriteCanonical<'a> {
     #[inline(always)]
     fn of_bytes(self, _count: &mut HeaderCount, buffer: &mut [u8]) -> usize {
         write_bytes(self.payload, buffer)
+    }
+}
+
+/// The offset of the error of a payload, in bytes from its beginning, or `None` if it is accepted.
+/// Requires that payloads are lists.
+#[derive(Clone, Copy)]
+pub struct FindError<'a> {
+    /// The payload.
+    pub payload: &'a [u8],
+}
+
+impl<'a> Ask for FindError<'a> {
+    type Answer = Option<usize>;
+
+    #[inline(always)]
+    fn of_list<F: LinkFamily>(
+        self,
+        ctx: F::Context,
+        _count: &mut HeaderCount,
+        _buffer: &mut [u8],
+    ) -> Option<usize> {
+        list_error::<F>(self.payload, ctx)
+    }
+
+    #[inline(always)]
+    fn of_first<F: LinkFamily>(
+        self,
+        _ctx: F::Context,
+        _count: &mut HeaderCount,
+        _buffer: &mut [u8],
+    ) -> Option<usize> {
+        unreachable!()
+    }
+
+    #[inline(always)]
+    fn of_bytes(self, _count: &mut HeaderCount, _buffer: &mut [u8]) -> Option<usize> {
+        unreachable!()
+    }
+}
+
+/// The first difference of two accepted payloads, or `None` if they are equivalent. Requires that
+/// payloads are lists.
+#[derive(Clone, Copy)]
+pub struct FindDifference<'a> {
+    /// The first payload.
+    pub a: &'a [u8],
+    /// The second payload.
+    pub b: &'a [u8],
+}
+
+impl<'a> Ask for FindDifference<'a> {
+    type Answer = Option<Difference>;
+
+    #[inline(always)]
+    fn of_list<F: LinkFamily>(
+        self,
+        ctx: F::Context,
+        _count: &mut HeaderCount,
+        _buffer: &mut [u8],
+    ) -> Option<Difference> {
+        list_difference::<F>(self.a, self.b, ctx)
+    }
+
+    #[inline(always)]
+    fn of_first<F: LinkFamily>(
+        self,
+        _ctx: F::Context,
+        _count: &mut HeaderCount,
+        _buffer: &mut [u8],
+    ) -> Option<Difference> {
+        unreachable!()
+    }
+
+    #[inline(always)]
+    fn of_bytes(self, _count: &mut HeaderCount, _buffer: &mut [u8]) -> Option<Difference> {
+        unreachable!()
+    }
+}
+
+/// The first attribute of an accepted payload that another one does not meet, or `None` if it meets
+/// all of them. Requires that payloads are lists.
+#[derive(Clone, Copy)]
+pub struct FindUnmet<'a> {
+    /// The payload that is to meet the other one.
+    pub have: &'a [u8],
+    /// The payload that is to be met.
+    pub want: &'a [u8],
+}
+
+impl<'a> Ask for FindUnmet<'a> {
+    type Answer = Option<Unmet>;
+
+    #[inline(always)]
+    fn of_list<F: LinkFamily>(
+        self,
+        ctx: F::Context,
+        _count: &mut HeaderCount,
+        _buffer: &mut [u8],
+    ) -> Option<Unmet> {
+        list_unmet::<F>(self.have, self.want, ctx)
+    }
+
+    #[inline(always)]
+    fn of_first<F: LinkFamily>(
+        self,
+        _ctx: F::Context,
+        _count: &mut HeaderCount,
+        _buffer: &mut [u8],
+    ) -> Option<Unmet> {
+        unreachable!()
+    }
+
+    #[inline(always)]
+    fn of_bytes(self, _count: &mut HeaderCount, _buffer: &mut [u8]) -> Option<Unmet> {
+        unreachable!()
+    }
+}
+
+/// The family of the attributes in payloads, or `None` if payloads are no lists of attributes.
+#[derive(Clone, Copy)]
+pub struct NameFamily;
+
+impl Ask for NameFamily {
+    type Answer = Option<Family>;
+
+    #[inline(always)]
+    fn of_list<F: LinkFamily>(
+        self,
+        _ctx: F::Context,
+        _count: &mut HeaderCount,
+        _buffer: &mut [u8],
+    ) -> Option<Family> {
+        Some(F::FAMILY)
+    }
+
+    #[inline(always)]
+    fn of_first<F: LinkFamily>(
+        self,
+        _ctx: F::Context,
+        _count: &mut HeaderCount,
+        _buffer: &mut [u8],
+    ) -> Option<Family> {
+        None
+    }
+
+    #[inline(always)]
+    fn of_bytes(self, _count: &mut HeaderCount, _buffer: &mut [u8]) -> Option<Family> {
+        None
     }
 }

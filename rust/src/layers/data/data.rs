@@ -10,7 +10,7 @@ use crate::layers::data::lower::LowerFamily;
 use crate::layers::data::payload_family::PayloadFamily;
 use crate::layers::data::peers::PeeredFamily;
 use crate::layers::data::tunnels::TunnelFamily;
-use crate::layers::nla_frame::{DecodeError, ExactEq, Family, HeaderCount};
+use crate::layers::nla_frame::{DecodeError, ExactEq, HeaderCount};
 use crate::layers::numbers::KindTag;
 
 /// The family of the attributes in `IFLA_INFO_DATA`, which the kind of the link chooses.
@@ -85,18 +85,6 @@ pub fn family_of(tag: KindTag) -> DataFamily {
 }
 
 impl<P: DataLayer> PayloadFamily<InfoDataOf<P>> for DataFamily {
-    fn listing(self) -> Option<Family> {
-        P::data_listing(self)
-    }
-
-    fn nested(self) -> Option<(u16, Self)> {
-        let DataFamily::Device(family) = self else {
-            return None;
-        };
-        let (kind, inner) = PayloadFamily::<InfoDataOf<P>>::nested(family)?;
-        Some((kind, DataFamily::Device(inner)))
-    }
-
     fn read(self, payload: &[u8], count: &mut HeaderCount) -> Result<InfoDataOf<P>, DecodeError> {
         P::read_data(self, payload, count)
     }

@@ -12,8 +12,7 @@ use crate::layers::devices::{
     InfoXfrm,
 };
 // End: written by tables/generate.
-use crate::layers::devices::{LIST_TYPE, MOST_LISTS};
-use crate::layers::nla_frame::{DecodeError, ExactEq, Family, HeaderCount};
+use crate::layers::nla_frame::{DecodeError, ExactEq, HeaderCount};
 use crate::layers::table::LinkLayer;
 
 /// The families of data of ipvlan, ipvtap, macvlan, macvtap, vrf, ipoib, xfrm, macsec and rmnet
@@ -66,34 +65,6 @@ macro_rules! of_device {
 }
 
 impl<P: LinkLayer> PayloadFamily<InfoDataOf<P>> for DeviceFamily {
-    fn listing(self) -> Option<Family> {
-        match self {
-            // Begin: written by tables/generate from tables/kinds (listing).
-            DeviceFamily::IpVlan => Some(Family::IpVlan),
-            DeviceFamily::IpVtap => Some(Family::IpVtap),
-            DeviceFamily::MacVlan(_) => Some(Family::MacVlan),
-            DeviceFamily::MacVtap(_) => Some(Family::MacVtap),
-            DeviceFamily::Vrf => Some(Family::Vrf),
-            DeviceFamily::Ipoib => Some(Family::Ipoib),
-            DeviceFamily::Xfrm => Some(Family::Xfrm),
-            DeviceFamily::MacSec => Some(Family::MacSec),
-            DeviceFamily::RmNet => Some(Family::RmNet),
-            // End: written by tables/generate.
-        }
-    }
-
-    fn nested(self) -> Option<(u16, Self)> {
-        match self {
-            DeviceFamily::MacVlan(lists) if lists < MOST_LISTS => {
-                Some((LIST_TYPE, DeviceFamily::MacVlan(lists + 1)))
-            }
-            DeviceFamily::MacVtap(lists) if lists < MOST_LISTS => {
-                Some((LIST_TYPE, DeviceFamily::MacVtap(lists + 1)))
-            }
-            _ => None,
-        }
-    }
-
     fn read(self, payload: &[u8], count: &mut HeaderCount) -> Result<InfoDataOf<P>, DecodeError> {
         Ok(of_device!(self, read(payload, count)))
     }

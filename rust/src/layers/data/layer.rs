@@ -11,9 +11,9 @@ use crate::layers::data::info_data::InfoDataOf;
 use crate::layers::data::payload_family::PayloadFamily;
 use crate::layers::data::port_data::{InfoPortDataOf, PortFamily};
 use crate::layers::devices::InfoVrfPort;
-use crate::layers::nla_frame::{Bytes, DecodeError, Family, HeaderCount};
+use crate::layers::nla_frame::{Bytes, DecodeError, HeaderCount};
 use crate::layers::peers::InfoTeamPort;
-use crate::layers::table::{LinkFamily, LinkLayer};
+use crate::layers::table::LinkLayer;
 
 /// A layer, with the calls on data and port data of its families. Every [`LinkLayer`] that is `Eq`,
 /// as peers are, implements it, and no other type does.
@@ -22,9 +22,6 @@ use crate::layers::table::{LinkFamily, LinkLayer};
 ///
 /// [`LinkLayer`]: crate::layers::table::LinkLayer
 pub trait DataLayer: LinkLayer + Eq + Sized {
-    /// The name of the family of the attributes in data of a family, or `None` if it is no list.
-    fn data_listing(family: DataFamily) -> Option<Family>;
-
     /// Parses a payload as data of a family, as [`PayloadFamily::read`] does.
     ///
     /// # Panics
@@ -63,10 +60,6 @@ pub trait DataLayer: LinkLayer + Eq + Sized {
     /// May panic where a condition of the caller that is named here does not hold. Where it does
     /// not panic then, the result has no meaning.
     fn write_data(value: &InfoDataOf<Self>, buffer: &mut [u8]) -> usize;
-
-    /// The name of the family of the attributes in port data of a family, or `None` if it is no
-    /// list.
-    fn port_data_listing(family: PortFamily) -> Option<Family>;
 
     /// Parses a payload as port data of a family, as [`PayloadFamily::read`] does.
     ///
@@ -126,16 +119,6 @@ macro_rules! of_port {
 impl<L: LinkLayer + Eq> DataLayer for L {
     // End: written by tables/generate.
 
-    fn data_listing(family: DataFamily) -> Option<Family> {
-        match family {
-            DataFamily::Lower(family) => PayloadFamily::<InfoDataOf<L>>::listing(family),
-            DataFamily::Device(family) => PayloadFamily::<InfoDataOf<L>>::listing(family),
-            DataFamily::Tunnel(family) => PayloadFamily::<InfoDataOf<L>>::listing(family),
-            DataFamily::Peered(family) => PayloadFamily::<InfoDataOf<L>>::listing(family),
-            DataFamily::Raw => None,
-        }
-    }
-
     fn read_data(
         family: DataFamily,
         payload: &[u8],
@@ -180,16 +163,6 @@ impl<L: LinkLayer + Eq> DataLayer for L {
 
     fn write_data(value: &InfoDataOf<L>, buffer: &mut [u8]) -> usize {
         value.encode(Write, buffer)
-    }
-
-    fn port_data_listing(family: PortFamily) -> Option<Family> {
-        match family {
-            PortFamily::Bond => Some(<L::BondPort as LinkFamily>::FAMILY),
-            PortFamily::Bridge => Some(<L::BridgePort as LinkFamily>::FAMILY),
-            PortFamily::Vrf => Some(Family::Vrf),
-            PortFamily::Team => Some(Family::TeamPort),
-            PortFamily::Raw => None,
-        }
     }
 
     fn read_port_data(

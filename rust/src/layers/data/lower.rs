@@ -6,8 +6,8 @@ use crate::layers::data::ask::Ask;
 use crate::layers::data::calls::{ask, read};
 use crate::layers::data::info_data::InfoDataOf;
 use crate::layers::data::payload_family::PayloadFamily;
-use crate::layers::nla_frame::{DecodeError, ExactEq, Family, HeaderCount};
-use crate::layers::table::{LinkFamily, LinkLayer};
+use crate::layers::nla_frame::{DecodeError, ExactEq, HeaderCount};
+use crate::layers::table::LinkLayer;
 
 /// The families of data of bridge, vlan, bond, hsr, can and dsa links, which the layer supplies.
 #[derive(Clone, Copy, Debug, PartialEq, Eq, Hash, PartialOrd, Ord)]
@@ -47,23 +47,6 @@ macro_rules! of_lower {
 }
 
 impl<P: LinkLayer> PayloadFamily<InfoDataOf<P>> for LowerFamily {
-    fn listing(self) -> Option<Family> {
-        match self {
-            // Begin: written by tables/generate from tables/kinds (listing).
-            LowerFamily::Bridge => Some(<P::Bridge as LinkFamily>::FAMILY),
-            LowerFamily::Vlan => Some(<P::Vlan as LinkFamily>::FAMILY),
-            LowerFamily::Bond => Some(<P::Bond as LinkFamily>::FAMILY),
-            LowerFamily::Hsr => Some(<P::Hsr as LinkFamily>::FAMILY),
-            LowerFamily::Can => Some(<P::Can as LinkFamily>::FAMILY),
-            LowerFamily::Dsa => Some(<P::Dsa as LinkFamily>::FAMILY),
-            // End: written by tables/generate.
-        }
-    }
-
-    fn nested(self) -> Option<(u16, Self)> {
-        None
-    }
-
     fn read(self, payload: &[u8], count: &mut HeaderCount) -> Result<InfoDataOf<P>, DecodeError> {
         Ok(of_lower!(self, read(payload, count)))
     }

@@ -2,20 +2,15 @@
 
 //! Payloads that are parsed, validated, compared and written by a family chosen among several.
 
-use crate::layers::data::ask::{Ask, Check, Measure, Same, WriteCanonical};
+use crate::layers::data::ask::{
+    Ask, Check, FindDifference, FindError, FindUnmet, Measure, NameFamily, Same, WriteCanonical,
+};
 use crate::layers::nla_frame::{DecodeError, Family, HeaderCount};
+use crate::layers::table::{Difference, Unmet};
 
 /// A choice of a family: payloads are parsed, validated, compared and written as data of the family
 /// chosen.
 pub trait PayloadFamily<D>: Copy {
-    /// The name of the family of the attributes in a payload, or `None` if payloads are not lists
-    /// of attributes.
-    fn listing(self) -> Option<Family>;
-
-    /// The type of the attributes that hold lists of attributes in turn, and the family of these
-    /// lists, or `None` if no attribute holds one.
-    fn nested(self) -> Option<(u16, Self)>;
-
     /// Parses a payload.
     ///
     /// The error is that of the first attribute in byte order whose header or value is rejected, or
@@ -35,6 +30,12 @@ pub trait PayloadFamily<D>: Copy {
     /// May panic where a condition of the caller that is named here does not hold. Where it does
     /// not panic then, the result has no meaning.
     fn ask<Q: Ask>(self, question: Q, count: &mut HeaderCount, buffer: &mut [u8]) -> Q::Answer;
+
+    /// The name of the family of the attributes in a payload, or `None` if payloads are not lists
+    /// of attributes.
+    fn listing(self) -> Option<Family> {
+        self.ask(NameFamily, &mut HeaderCount::new(), &mut [])
+    }
 }
 
 /// Validates a payload: returns `Ok` if `read` accepts it, otherwise the error of the payload.
@@ -102,4 +103,60 @@ pub fn write_canonical_payload<D, F: PayloadFamily<D>>(
     buffer: &mut [u8],
 ) -> usize {
     family.ask(WriteCanonical { payload }, &mut HeaderCount::new(), buffer)
+}
+
+/// Returns the offset, in bytes from the beginning of a payload, of the innermost attribute that
+/// has the payload's error, in lists at any depth, or `None` if the payload is accepted.
+///
+/// If a header is rejected, the offset is that of the header. Each header is examined at most
+/// twice. Does not allocate. Requires that payloads of this family are lists (`listing`).
+///
+/// # Panics
+///
+/// May panic where a condition of the caller that is named here does not hold. Where it does
+/// not panic then, the result has no meaning.
+#[must_use]
+pub fn list_error<D, F: PayloadFamily<D>>(family: F, payload: &[u8]) -> Option<usize> {
+    family.ask(FindError { payload }, &mut HeaderCount::new(), &mut [])
+}
+
+/// Returns the first pair of attributes in which two accepted payloads differ, or `None` if the
+/// payloads are equivalent.
+///
+/// Two attributes that contain lists, of whatever family, differ if these lists do: the result is
+/// then the first pair in these. Offsets are in bytes from the beginning of each payload. Each
+/// header is examined at most twice. Does not allocate. Requires that both payloads are accepted,
+/// and that payloads of this family are lists (`listing`).
+///
+/// # Panics
+///
+/// May panic where a condition of the caller that is named here does not hold. Where it does
+/// not panic then, the result has no meaning.
+#[must_use]
+pub fn list_difference<D, F: PayloadFamily<D>>(
+    family: F,
+    a: &[u8],
+    b: &[u8],
+) -> Option<Difference> {
+    family.ask(FindDifference { a, b }, &mut HeaderCount::new(), &mut [])
+}
+
+/// Returns the first attribute of `want` that `have` does not meet, of two accepted payloads, or
+/// `None` if it meets all of them.
+///
+/// Of several attributes of a type the last one counts, as in the kernel. It is met where the last
+/// attribute of its type in `have` has an equal payload or is equivalent; flags of the type do not
+/// matter. An attribute that contains a list of another family is met where that list is: the
+/// result is then the first attribute that is not met in it. In a list that is a set, each
+/// attribute is met by one of its type, in any order. A list of the family itself is met as a
+/// whole. Offsets count from the beginning of each payload. Does not allocate. Requires that both
+/// payloads are accepted, and that payloads of this family are lists (`listing`).
+///
+/// # Panics
+///
+/// May panic where a condition of the caller that is named here does not hold. Where it does
+/// not panic then, the result has no meaning.
+#[must_use]
+pub fn list_unmet<D, F: PayloadFamily<D>>(family: F, have: &[u8], want: &[u8]) -> Option<Unmet> {
+    family.ask(FindUnmet { have, want }, &mut HeaderCount::new(), &mut [])
 }

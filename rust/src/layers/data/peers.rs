@@ -11,8 +11,8 @@ use crate::layers::peers::{
     InfoBatAdv, InfoNetkitOf, InfoPfcp, InfoVethOf, InfoVxcanOf, InfoWireguard, InfoWwan,
 };
 // End: written by tables/generate.
-use crate::layers::nla_frame::{DecodeError, ExactEq, Family, HeaderCount};
-use crate::layers::table::{LinkFamily, LinkLayer};
+use crate::layers::nla_frame::{DecodeError, ExactEq, HeaderCount};
+use crate::layers::table::LinkLayer;
 
 /// The families of data of links with a peer (veth, vxcan and netkit), and of tun, wireguard,
 /// batadv, wwan and pfcp links.
@@ -65,25 +65,6 @@ macro_rules! of_peered {
 }
 
 impl<P: LinkLayer> PayloadFamily<InfoDataOf<P>> for PeeredFamily {
-    fn listing(self) -> Option<Family> {
-        match self {
-            // Begin: written by tables/generate from tables/kinds (listing).
-            PeeredFamily::Tun => Some(<P::Tun as LinkFamily>::FAMILY),
-            PeeredFamily::Veth => None,
-            PeeredFamily::Wireguard => Some(Family::Wireguard),
-            PeeredFamily::Netkit => Some(Family::Netkit),
-            PeeredFamily::Vxcan => None,
-            PeeredFamily::BatAdv => Some(Family::BatAdv),
-            PeeredFamily::Wwan => Some(Family::Wwan),
-            PeeredFamily::Pfcp => Some(Family::Pfcp),
-            // End: written by tables/generate.
-        }
-    }
-
-    fn nested(self) -> Option<(u16, Self)> {
-        None
-    }
-
     fn read(self, payload: &[u8], count: &mut HeaderCount) -> Result<InfoDataOf<P>, DecodeError> {
         Ok(of_peered!(self, read(payload, count)))
     }

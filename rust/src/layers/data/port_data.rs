@@ -7,7 +7,7 @@ use crate::layers::data::encode::Encode;
 use crate::layers::data::layer::DataLayer;
 use crate::layers::data::payload_family::PayloadFamily;
 use crate::layers::devices::InfoVrfPort;
-use crate::layers::nla_frame::{Bytes, DecodeError, ExactEq, Family, HeaderCount, Nla, Nlas};
+use crate::layers::nla_frame::{Bytes, DecodeError, ExactEq, HeaderCount, Nla, Nlas};
 use crate::layers::numbers::{IFLA_INFO_SLAVE_DATA, InfoPortKind, PortTag};
 use crate::layers::peers::InfoTeamPort;
 use crate::layers::table::LinkLayer;
@@ -64,14 +64,6 @@ pub enum InfoPortDataOf<P: LinkLayer> {
 pub type InfoPortData = InfoPortDataOf<Bytes>;
 
 impl<P: DataLayer> PayloadFamily<InfoPortDataOf<P>> for PortFamily {
-    fn listing(self) -> Option<Family> {
-        P::port_data_listing(self)
-    }
-
-    fn nested(self) -> Option<(u16, Self)> {
-        None
-    }
-
     fn read(
         self,
         payload: &[u8],

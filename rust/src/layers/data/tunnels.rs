@@ -13,7 +13,7 @@ use crate::layers::tunnels::{
     InfoAmt, InfoBareUdp, InfoGeneve, InfoGre, InfoGre6, InfoGtp, InfoIpTunnel, InfoVti, InfoVxlan,
 };
 // End: written by tables/generate.
-use crate::layers::nla_frame::{DecodeError, ExactEq, Family, HeaderCount};
+use crate::layers::nla_frame::{DecodeError, ExactEq, HeaderCount};
 
 /// The families of data of tunnels.
 #[derive(Clone, Copy, Debug, PartialEq, Eq, Hash, PartialOrd, Ord)]
@@ -76,30 +76,6 @@ macro_rules! of_tunnel {
 }
 
 impl<P: LinkLayer> PayloadFamily<InfoDataOf<P>> for TunnelFamily {
-    fn listing(self) -> Option<Family> {
-        match self {
-            // Begin: written by tables/generate from tables/kinds (listing).
-            TunnelFamily::Vxlan => Some(Family::Vxlan),
-            TunnelFamily::GreTap => Some(Family::Gre),
-            TunnelFamily::GreTap6 => Some(Family::Gre6),
-            TunnelFamily::IpTunnel(_) => Some(Family::IpTunnel),
-            TunnelFamily::GreTun => Some(Family::Gre),
-            TunnelFamily::GreTun6 => Some(Family::Gre6),
-            TunnelFamily::Vti => Some(Family::Vti),
-            TunnelFamily::Gtp => Some(Family::Gtp),
-            TunnelFamily::Geneve => Some(Family::Geneve),
-            TunnelFamily::Amt => Some(Family::Amt),
-            TunnelFamily::BareUdp => Some(Family::BareUdp),
-            TunnelFamily::ErSpan => Some(Family::Gre),
-            TunnelFamily::Ip6ErSpan => Some(Family::Gre6),
-            // End: written by tables/generate.
-        }
-    }
-
-    fn nested(self) -> Option<(u16, Self)> {
-        None
-    }
-
     fn read(self, payload: &[u8], count: &mut HeaderCount) -> Result<InfoDataOf<P>, DecodeError> {
         Ok(of_tunnel!(self, read(payload, count)))
     }

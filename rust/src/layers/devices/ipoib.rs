@@ -65,6 +65,8 @@ impl RowFamily for InfoIpoib {
 
 impl TableFamily for InfoIpoib {
     type Custom = ();
+
+    const IS_SET: bool = false;
 }
 
 impl Nla for InfoIpoib {

@@ -110,6 +110,8 @@ impl<const TAP: bool> Nla for InfoIpVlanOf<TAP> {
 
 impl<const TAP: bool> TableFamily for InfoIpVlanOf<TAP> {
     type Custom = ();
+
+    const IS_SET: bool = false;
 }
 
 /// Reads the attribute. A payload of invalid length is rejected as `(IpVlan, type, Length)` or

@@ -98,6 +98,8 @@ impl RowFamily for InfoMacSec {
 
 impl TableFamily for InfoMacSec {
     type Custom = ();
+
+    const IS_SET: bool = false;
 }
 
 impl Nla for InfoMacSec {

@@ -8,6 +8,7 @@ use crate::layers::devices::nested_calls::{
     nested_check, nested_parse, nested_push, nested_read, nested_same,
 };
 use crate::layers::devices::nested_canonical::{nested_canonical_len, nested_write_canonical};
+use crate::layers::devices::nested_differences::{nested_difference, nested_error, nested_unmet};
 use crate::layers::devices::nested_emission::{
     nested_emit_payload, nested_emit_value, nested_fit_len, nested_kind, nested_value_len,
 };
@@ -17,7 +18,8 @@ use crate::layers::nla_frame::{
 };
 use crate::layers::numbers::{MacVlanFlags, MacVlanMacAddressMode, MacVlanMode};
 use crate::layers::table::{
-    Decoded, Encodable, LinkFamily, Lookup, RowFamily, Slot, encodable_by_rows, store_by_rows,
+    Decoded, Difference, Encodable, LinkFamily, Lookup, PlacedNla, RowFamily, Slot, Unmet,
+    encodable_by_rows, store_by_rows,
 };
 use alloc::vec::Vec;
 use bitflags::Flags;
@@ -131,6 +133,8 @@ impl LinkFamily for InfoMacVtap {
 
     const FAMILY: Family = Family::MacVtap;
 
+    const IS_SET: bool = false;
+
     #[inline(always)]
     fn shape(lists: u8, kind: u16) -> Lookup {
         <InfoMacVtap as RowFamily>::shape(lists, kind)
@@ -177,6 +181,18 @@ impl LinkFamily for InfoMacVtap {
 
     fn write_canonical(nla: &NlaBuffer<'_>, lists: u8, buffer: &mut [u8]) -> usize {
         nested_write_canonical::<InfoMacVtap>(nla, lists, buffer)
+    }
+
+    fn error_offset(nla: &NlaBuffer<'_>, lists: u8) -> Option<usize> {
+        nested_error::<InfoMacVtap>(nla, lists)
+    }
+
+    fn difference(a: &PlacedNla<'_>, b: &PlacedNla<'_>, lists: u8) -> Option<Difference> {
+        nested_difference::<InfoMacVtap>(a, b, lists)
+    }
+
+    fn unmet(have: &PlacedNla<'_>, want: &PlacedNla<'_>, lists: u8) -> Option<Unmet> {
+        nested_unmet::<InfoMacVtap>(have, want, lists)
     }
 }
 

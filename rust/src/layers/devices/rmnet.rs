@@ -77,6 +77,8 @@ fn pair_of(under: InfoRmNetFlags) -> (u32, u32) {
 
 impl TableFamily for InfoRmNet {
     type Custom = ();
+
+    const IS_SET: bool = false;
 }
 
 impl Nla for InfoRmNet {

@@ -60,6 +60,8 @@ impl RowFamily for InfoVrf {
 
 impl TableFamily for InfoVrf {
     type Custom = ();
+
+    const IS_SET: bool = false;
 }
 
 impl Nla for InfoVrf {

@@ -60,6 +60,8 @@ impl RowFamily for InfoXfrm {
 
 impl TableFamily for InfoXfrm {
     type Custom = ();
+
+    const IS_SET: bool = false;
 }
 
 impl Nla for InfoXfrm {

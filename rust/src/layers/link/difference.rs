@@ -11,7 +11,7 @@ use crate::layers::link::list::check_of;
 use crate::layers::link::placed::ErrorIn;
 use crate::layers::link::role::{CurrentKinds, Role, kinds_after, role_of};
 use crate::layers::nla_frame::{Bytes, Family, HeaderCount, next_attribute};
-use crate::layers::table::PlacedNla;
+use crate::layers::table::{PlacedNla, whole_difference};
 
 /// The first difference of two attributes with data of one family: in the data if that is a list,
 /// otherwise of the attributes as a whole.
@@ -22,12 +22,14 @@ fn data_difference<D, F: PayloadFamily<D>>(
 ) -> Option<Difference> {
     let (x, y) = (p.nla.value(), q.nla.value());
     match family.listing() {
-        Some(name) => {
-            let inside = list_difference::<D, F>(family, name, x, y)?;
+        Some(_) => {
+            let inside = list_difference::<D, F>(family, x, y)?;
             Some(inside.inside(p, q))
         }
-        None if same_payloads::<D, F>(family, x, y, &mut HeaderCount::new()) => None,
-        None => Some(Difference::of_pair(Family::LinkInfo, p, q)),
+        None => {
+            let is_same = same_payloads::<D, F>(family, x, y, &mut HeaderCount::new());
+            whole_difference(Family::LinkInfo, is_same, p, q)
+        }
     }
 }
 
@@ -92,10 +94,10 @@ fn first_difference_in<P: DataLayer>(a: &[u8], b: &[u8]) -> Option<Difference> {
 /// `None` if and only if the lists are equivalent ([`same_of`]).
 ///
 /// Attributes are compared in byte order. Data that is a list is compared attribute by attribute,
-/// and so are lists inside it. Data of veth and vxcan links, and data without a family, is compared
-/// as a whole. In the result, `family` is the family of the data that differs, or
-/// [`Family::LinkInfo`]. Offsets are in bytes from the beginning of each list, and `None` for a
-/// list that has ended.
+/// and so are lists inside it, of any family. Data of veth and vxcan links, and data without a
+/// family, is compared as a whole. In the result, `family` is that of the innermost attributes that
+/// differ, or [`Family::LinkInfo`]. Offsets are in bytes from the beginning of each list, and
+/// `None` for a list that has ended.
 ///
 /// The error is that of `a`, otherwise that of `b`. Each header is examined at most four times.
 /// Does not allocate.

@@ -3,8 +3,8 @@
 //! Whether a link has all attributes of a request, and which one it lacks.
 
 use crate::layers::data::{
-    DataFamily, DataLayer, InfoDataOf, InfoPortDataOf, PayloadFamily, PortFamily, Unmet, UnmetAt,
-    earlier, family_of, list_unmet, port_family_of, same_payloads,
+    DataFamily, DataLayer, InfoDataOf, InfoPortDataOf, PayloadFamily, PortFamily, family_of,
+    list_unmet, port_family_of, same_payloads,
 };
 use crate::layers::link::item::same_item;
 use crate::layers::link::list::check_of;
@@ -17,7 +17,9 @@ use crate::layers::numbers::{
     IFLA_INFO_DATA, IFLA_INFO_KIND, IFLA_INFO_SLAVE_DATA, IFLA_INFO_SLAVE_KIND, IFLA_INFO_XSTATS,
     port_tag_of_name, tag_of_name,
 };
-use crate::layers::table::{INDEXED, LastOfType, PlacedNla, types_end};
+use crate::layers::table::{
+    INDEXED, LastOfType, PlacedNla, Unmet, UnmetAt, earlier, types_end, unmet_as_whole,
+};
 
 /// The names of the current kinds.
 #[derive(Clone, Copy)]
@@ -100,16 +102,6 @@ fn is_same_kind(role: Role, have: Names<'_>, want: Names<'_>) -> bool {
     }
 }
 
-/// An attribute of the list that is not met as a whole.
-fn whole(want: &PlacedNla<'_>, have: Option<usize>) -> Unmet {
-    Unmet {
-        family: Family::LinkInfo,
-        kind: want.nla.kind(),
-        want: want.offset,
-        have,
-    }
-}
-
 /// What of data `want` does not find in data `have` of its kind: an attribute, where data is a
 /// list.
 fn data_unmet<D, F: PayloadFamily<D>>(
@@ -122,20 +114,14 @@ fn data_unmet<D, F: PayloadFamily<D>>(
         return None;
     }
     match family.listing() {
-        Some(name) => {
-            let inner = list_unmet::<D, F>(family, name, had, wanted)?;
-            Some(Unmet {
-                family: inner.family,
-                kind: inner.kind,
-                want: want.offset + 4 + inner.want,
-                have: match inner.have {
-                    Some(offset) => Some(have.offset + 4 + offset),
-                    None => None,
-                },
-            })
+        Some(_) => {
+            let inside = list_unmet::<D, F>(family, had, wanted)?;
+            Some(inside.inside(want, have))
         }
-        None if same_payloads::<D, F>(family, had, wanted, &mut HeaderCount::new()) => None,
-        None => Some(whole(want, Some(have.offset))),
+        None => {
+            let is_met = same_payloads::<D, F>(family, had, wanted, &mut HeaderCount::new());
+            unmet_as_whole(Family::LinkInfo, is_met, have, want)
+        }
     }
 }
 
@@ -156,7 +142,7 @@ fn placed_unmet<P: DataLayer>(
     placed: &PlacedNla<'_>,
 ) -> Option<Unmet> {
     let Some(found) = found else {
-        return Some(whole(placed, None));
+        return Some(Unmet::of_whole(Family::LinkInfo, placed, None));
     };
     let kind = placed.nla.kind();
     if !belongs_to_a_kind(kind) {
@@ -166,7 +152,11 @@ fn placed_unmet<P: DataLayer>(
     let wanted = names_before(want, placed.offset);
     let role = role_of(wanted.kinds(), kind);
     if !is_same_kind(role, had, wanted) {
-        return Some(whole(placed, Some(found.offset)));
+        return Some(Unmet::of_whole(
+            Family::LinkInfo,
+            placed,
+            Some(found.offset),
+        ));
     }
     role_unmet::<P>(role, found, placed)
 }
@@ -193,13 +183,9 @@ fn item_unmet<P: DataLayer>(
     have: &PlacedNla<'_>,
     want: &PlacedNla<'_>,
 ) -> Option<Unmet> {
-    if have.nla.value() == want.nla.value()
-        || same_item::<P>(&have.nla, &want.nla, role, &mut HeaderCount::new())
-    {
-        None
-    } else {
-        Some(whole(want, Some(have.offset)))
-    }
+    let is_met = have.nla.value() == want.nla.value()
+        || same_item::<P>(&have.nla, &want.nla, role, &mut HeaderCount::new());
+    unmet_as_whole(Family::LinkInfo, is_met, have, want)
 }
 
 /// The first attribute of an accepted list that another one does not meet.
@@ -242,15 +228,17 @@ fn unmet_from<P: DataLayer>(have: &[u8], want: &[u8], start: u16) -> Option<Unme
 ///
 /// Of several attributes of a type the last one counts, as in the kernel. It is met where the last
 /// attribute of its type in `have`, of the same kind or port kind, has an equal payload or is
-/// equivalent. Data that is a list is compared attribute by attribute ([`list_unmet`]). Names,
-/// other data, statistics, and lists inside data are compared as a whole, with their order and the
-/// flags inside. Flags of an attribute's own type do not matter. Empty data is met by data alone.
+/// equivalent. Data that is a list is compared attribute by attribute ([`list_unmet`]), and so are
+/// lists of another family in it, at any depth: in a list that is a set, each attribute must be met
+/// by one of its type, in any order. Names, other data, statistics, lists of addresses, and lists
+/// of the family itself are compared as a whole, with their order and the flags inside. Flags of an
+/// attribute's own type do not matter. Empty data is met by data alone.
 ///
-/// Of what is not met, `family` is that of the attribute inside data, or [`Family::LinkInfo`] of
-/// one of the list; offsets count from the beginning of each list. The error is that of `have`,
-/// else that of `want`. Does not allocate. Equal lists are validated once. Otherwise the passes
-/// over the lists are as many as in [`list_unmet`], and one more over both for data, statistics and
-/// port data.
+/// Of what is not met, `family` is that of the innermost attribute that is told, or
+/// [`Family::LinkInfo`] of one of the list; offsets count from the beginning of each list. The
+/// error is that of `have`, else that of `want`. Does not allocate. Equal lists are validated once.
+/// Otherwise the passes over the lists are as many as in [`list_unmet`], and one more over both for
+/// data, statistics and port data.
 ///
 /// [`list_unmet`]: crate::layers::data::list_unmet
 /// [`Family::LinkInfo`]: crate::layers::nla_frame::Family::LinkInfo

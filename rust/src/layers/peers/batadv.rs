@@ -57,6 +57,8 @@ impl RowFamily for InfoBatAdv {
 
 impl TableFamily for InfoBatAdv {
     type Custom = ();
+
+    const IS_SET: bool = false;
 }
 
 impl Nla for InfoBatAdv {

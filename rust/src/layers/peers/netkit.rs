@@ -116,6 +116,8 @@ impl<P: LinkPeer> PayloadRow<InfoNetkitOf<P>> for PeerRow<P> {
 
 impl<P: LinkPeer> TableFamily for InfoNetkitOf<P> {
     type Custom = (PeerRow<P>, ());
+
+    const IS_SET: bool = false;
 }
 
 impl<P: LinkPeer> Nla for InfoNetkitOf<P> {

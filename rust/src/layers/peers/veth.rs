@@ -77,6 +77,8 @@ impl<P: LinkPeer> PayloadRow<InfoVethOf<P>> for PeerRow<P> {
 
 impl<P: LinkPeer> TableFamily for InfoVethOf<P> {
     type Custom = (PeerRow<P>, ());
+
+    const IS_SET: bool = false;
 }
 
 impl<P: LinkPeer> Nla for InfoVethOf<P> {

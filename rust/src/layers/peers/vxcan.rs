@@ -77,6 +77,8 @@ impl<P: LinkPeer> PayloadRow<InfoVxcanOf<P>> for PeerRow<P> {
 
 impl<P: LinkPeer> TableFamily for InfoVxcanOf<P> {
     type Custom = (PeerRow<P>, ());
+
+    const IS_SET: bool = false;
 }
 
 impl<P: LinkPeer> Nla for InfoVxcanOf<P> {

@@ -57,6 +57,8 @@ impl RowFamily for InfoWwan {
 
 impl TableFamily for InfoWwan {
     type Custom = ();
+
+    const IS_SET: bool = false;
 }
 
 impl Nla for InfoWwan {

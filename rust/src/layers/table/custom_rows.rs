@@ -6,16 +6,20 @@
 
 use crate::layers::nla_frame::{DecodeError, HeaderCount, NlaBuffer};
 use crate::layers::table::canonical::{row_canonical_len, row_write_canonical};
+use crate::layers::table::difference::{Difference, whole_difference};
+use crate::layers::table::last::PlacedNla;
+use crate::layers::table::located::whole_error;
 use crate::layers::table::payload::LinkPayload;
 use crate::layers::table::payload_calls::{
-    payload_check, payload_kind, payload_len, payload_push, payload_read, payload_same,
-    payload_write,
+    payload_check, payload_difference, payload_error, payload_kind, payload_len, payload_push,
+    payload_read, payload_same, payload_unmet, payload_write,
 };
 use crate::layers::table::payload_row::PayloadRow;
 use crate::layers::table::row_family::RowFamily;
 use crate::layers::table::rows::{
     row_check, row_emit_payload, row_fit_len, row_kind, row_read, row_same, row_store,
 };
+use crate::layers::table::unmet::{Unmet, unmet_as_whole};
 use alloc::vec::Vec;
 
 /// A list of rows of the family `F` with payloads of types of their own.
@@ -137,6 +141,36 @@ pub trait CustomRows<F: RowFamily> {
     /// May panic where a condition of the caller that is named here does not hold. Where it does
     /// not panic then, the result has no meaning.
     fn emit(value: &F, buffer: &mut [u8]) -> usize;
+
+    /// The offset of the error of an attribute, in bytes from its header, or `None` if it is
+    /// accepted: that of the innermost attribute that has it, or of the bytes where no header is
+    /// accepted. Does not allocate.
+    ///
+    /// # Panics
+    ///
+    /// May panic where a condition of the caller that is named here does not hold. Where it does
+    /// not panic then, the result has no meaning.
+    fn error_offset(nla: &NlaBuffer<'_>, ctx: F::Context) -> Option<usize>;
+
+    /// The first difference of two attributes of one type, or `None` if they are equivalent: in
+    /// their lists if they contain lists, otherwise of both as a whole. Requires that each is
+    /// accepted. Does not allocate.
+    ///
+    /// # Panics
+    ///
+    /// May panic where a condition of the caller that is named here does not hold. Where it does
+    /// not panic then, the result has no meaning.
+    fn difference(a: &PlacedNla<'_>, b: &PlacedNla<'_>, ctx: F::Context) -> Option<Difference>;
+
+    /// What of the attribute `want` the attribute `have` of its type does not meet: the first
+    /// attribute that is not met in its list, if it contains one, otherwise all of it. Requires
+    /// that each is accepted. Does not allocate.
+    ///
+    /// # Panics
+    ///
+    /// May panic where a condition of the caller that is named here does not hold. Where it does
+    /// not panic then, the result has no meaning.
+    fn unmet(have: &PlacedNla<'_>, want: &PlacedNla<'_>, ctx: F::Context) -> Option<Unmet>;
 }
 
 impl<F: RowFamily> CustomRows<F> for () {
@@ -201,6 +235,21 @@ impl<F: RowFamily> CustomRows<F> for () {
     #[inline(always)]
     fn emit(value: &F, buffer: &mut [u8]) -> usize {
         row_emit_payload(value, buffer)
+    }
+
+    fn error_offset(nla: &NlaBuffer<'_>, ctx: F::Context) -> Option<usize> {
+        whole_error(row_check::<F>(nla, ctx))
+    }
+
+    fn difference(a: &PlacedNla<'_>, b: &PlacedNla<'_>, ctx: F::Context) -> Option<Difference> {
+        let is_same = row_same::<F>(&a.nla, &b.nla, ctx);
+        whole_difference(F::FAMILY, is_same, a, b)
+    }
+
+    fn unmet(have: &PlacedNla<'_>, want: &PlacedNla<'_>, ctx: F::Context) -> Option<Unmet> {
+        let is_met =
+            have.nla.value() == want.nla.value() || row_same::<F>(&have.nla, &want.nla, ctx);
+        unmet_as_whole(F::FAMILY, is_met, have, want)
     }
 }
 
@@ -298,6 +347,30 @@ impl<F: RowFamily, R: PayloadRow<F>, Rest: CustomRows<F>> CustomRows<F> for (R, 
         match R::payload(value) {
             Some(payload) => payload.emit(buffer),
             None => Rest::emit(value, buffer),
+        }
+    }
+
+    fn error_offset(nla: &NlaBuffer<'_>, ctx: F::Context) -> Option<usize> {
+        if nla.kind() == R::NUMBER {
+            payload_error::<F, R>(nla, ctx)
+        } else {
+            Rest::error_offset(nla, ctx)
+        }
+    }
+
+    fn difference(a: &PlacedNla<'_>, b: &PlacedNla<'_>, ctx: F::Context) -> Option<Difference> {
+        if a.nla.kind() == R::NUMBER {
+            payload_difference::<F, R>(a, b, ctx)
+        } else {
+            Rest::difference(a, b, ctx)
+        }
+    }
+
+    fn unmet(have: &PlacedNla<'_>, want: &PlacedNla<'_>, ctx: F::Context) -> Option<Unmet> {
+        if want.nla.kind() == R::NUMBER {
+            payload_unmet::<F, R>(have, want, ctx)
+        } else {
+            Rest::unmet(have, want, ctx)
         }
     }
 }

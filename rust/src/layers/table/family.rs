@@ -5,7 +5,10 @@
 
 use crate::compat::TryVec;
 use crate::layers::nla_frame::{DecodeError, Family, HeaderCount, Nla, NlaBuffer};
+use crate::layers::table::difference::Difference;
+use crate::layers::table::last::PlacedNla;
 use crate::layers::table::lookup::Lookup;
+use crate::layers::table::unmet::Unmet;
 use alloc::vec::Vec;
 
 /// A family: the attributes of one kind of data, such as `IFLA_VXLAN_*` in the data of a `vxlan`
@@ -19,6 +22,9 @@ pub trait LinkFamily: Nla + Sized {
 
     /// The name of the family, which its errors have.
     const FAMILY: Family;
+
+    /// Whether a list of the attributes is a set: in any order, and a request adds to it.
+    const IS_SET: bool;
 
     /// How the family reads a type without flag bits: by a shape, by a cause that rejects it, or as
     /// an opaque attribute.
@@ -101,4 +107,36 @@ pub trait LinkFamily: Nla + Sized {
     /// May panic where a condition of the caller that is named here does not hold. Where it does
     /// not panic then, the result has no meaning.
     fn write_canonical(nla: &NlaBuffer<'_>, ctx: Self::Context, buffer: &mut [u8]) -> usize;
+
+    /// Returns the offset of the error of an attribute, in bytes from its header, or `None` if the
+    /// attribute is accepted.
+    ///
+    /// It is the offset of the innermost attribute that has the error, or of the bytes where no
+    /// header is accepted: 0 if the error is the attribute's own. Does not allocate.
+    fn error_offset(nla: &NlaBuffer<'_>, ctx: Self::Context) -> Option<usize>;
+
+    /// Returns the first difference of two attributes of one type, or `None` if they are
+    /// equivalent: in their lists if they contain lists, otherwise of both as a whole.
+    ///
+    /// Offsets are in bytes from the beginning of the lists that the attributes are in. Requires
+    /// that each is accepted. Does not allocate.
+    ///
+    /// # Panics
+    ///
+    /// May panic where a condition of the caller that is named here does not hold. Where it does
+    /// not panic then, the result has no meaning.
+    fn difference(a: &PlacedNla<'_>, b: &PlacedNla<'_>, ctx: Self::Context) -> Option<Difference>;
+
+    /// Returns what of the attribute `want` the attribute `have` of its type does not meet: the
+    /// first attribute that is not met in its list, if it contains one, otherwise all of it.
+    ///
+    /// An attribute is met by an equal payload, and by an equivalent attribute. A list of the
+    /// family itself is met as a whole. Offsets are in bytes from the beginning of the lists that
+    /// the attributes are in. Requires that each is accepted. Does not allocate.
+    ///
+    /// # Panics
+    ///
+    /// May panic where a condition of the caller that is named here does not hold. Where it does
+    /// not panic then, the result has no meaning.
+    fn unmet(have: &PlacedNla<'_>, want: &PlacedNla<'_>, ctx: Self::Context) -> Option<Unmet>;
 }

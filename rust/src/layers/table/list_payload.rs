@@ -5,11 +5,15 @@
 use crate::layers::nla_frame::{
     DecodeError, ExactEq, Family, HeaderCount, Nlas, fitting, nlas_fit_len, write_attributes,
 };
+use crate::layers::table::difference::{Difference, list_difference};
 use crate::layers::table::family::LinkFamily;
+use crate::layers::table::last::PlacedNla;
 use crate::layers::table::list::{
     list_check, list_measure, list_read, list_same, list_write_canonical,
 };
+use crate::layers::table::located::list_error;
 use crate::layers::table::payload::LinkPayload;
+use crate::layers::table::unmet::{Unmet, list_unmet};
 
 /// A nested list of attributes of the family. An error is that of the first attribute in byte order
 /// whose header or value is rejected: the list itself has none.
@@ -53,5 +57,20 @@ impl<F: LinkFamily<Context = ()> + Eq + ExactEq> LinkPayload for Nlas<F> {
 
     fn write_canonical(payload: &[u8], buffer: &mut [u8]) -> usize {
         list_write_canonical::<F>(payload, (), buffer)
+    }
+
+    fn error_offset(payload: &[u8]) -> Option<usize> {
+        let inside = list_error::<F>(payload, ())?;
+        Some(4 + inside)
+    }
+
+    fn difference(_family: Family, a: &PlacedNla<'_>, b: &PlacedNla<'_>) -> Option<Difference> {
+        let inside = list_difference::<F>(a.nla.value(), b.nla.value(), ())?;
+        Some(inside.inside(a, b))
+    }
+
+    fn unmet(_family: Family, have: &PlacedNla<'_>, want: &PlacedNla<'_>) -> Option<Unmet> {
+        let inside = list_unmet::<F>(have.nla.value(), want.nla.value(), ())?;
+        Some(inside.inside(want, have))
     }
 }

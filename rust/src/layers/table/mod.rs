@@ -6,6 +6,7 @@ mod by_rows;
 mod canonical;
 mod custom_rows;
 mod decoded;
+mod difference;
 mod encodable;
 pub mod encodables;
 mod family;
@@ -15,6 +16,7 @@ mod layer;
 mod list;
 mod list_payload;
 mod listed;
+mod located;
 mod lookup;
 pub mod lower;
 pub mod opaque;
@@ -27,6 +29,7 @@ mod row_family;
 mod rows;
 mod slot;
 mod table_family;
+mod unmet;
 
 pub use crate::layers::shapes::{
     Datum, Shape, datum_len, read_datum, shape_canonical_len, shape_check, shape_same,
@@ -35,6 +38,7 @@ pub use crate::layers::shapes::{
 pub use canonical::{row_canonical_len, row_write_canonical};
 pub use custom_rows::CustomRows;
 pub use decoded::Decoded;
+pub use difference::{Difference, list_difference, whole_difference};
 pub use encodable::Encodable;
 pub use family::LinkFamily;
 pub use first::{first_check, first_measure, first_read, first_same, first_write_canonical};
@@ -42,6 +46,7 @@ pub use last::{INDEXED, LastOfType, PlacedNla, own_bytes, types_end};
 pub use layer::{LayerFamilies, LinkLayer};
 pub use list::{list_check, list_measure, list_read, list_same, list_write_canonical, total_with};
 pub use listed::ListedFamily;
+pub use located::{list_error, whole_error};
 pub use lookup::Lookup;
 pub use opaque::Opaque;
 pub use payload::LinkPayload;
@@ -54,6 +59,7 @@ pub use rows::{
 };
 pub use slot::Slot;
 pub use table_family::TableFamily;
+pub use unmet::{Unmet, UnmetAt, earlier, list_unmet, unmet_as_whole};
 
 #[doc(inline)]
 pub use crate::{

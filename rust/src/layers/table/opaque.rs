@@ -142,6 +142,8 @@ impl<const NUMBER: u8> Nla for Opaque<NUMBER> {
 
 impl<const NUMBER: u8> TableFamily for Opaque<NUMBER> {
     type Custom = ();
+
+    const IS_SET: bool = false;
 }
 
 /// Keeps the attribute verbatim. Reading fails only if memory runs out.

@@ -3,6 +3,9 @@
 //! Payloads that are values of types of their own: lists of attributes of another family, peers.
 
 use crate::layers::nla_frame::{DecodeError, ExactEq, Family, HeaderCount};
+use crate::layers::table::difference::Difference;
+use crate::layers::table::last::PlacedNla;
+use crate::layers::table::unmet::Unmet;
 
 /// A payload that is a value of a type of its own: it is not one of the shapes that
 /// [`layers::shapes`] reads.
@@ -87,4 +90,37 @@ pub trait LinkPayload: Sized + Eq + ExactEq {
     /// May panic where a condition of the caller that is named here does not hold. Where it does
     /// not panic then, the result has no meaning.
     fn write_canonical(payload: &[u8], buffer: &mut [u8]) -> usize;
+
+    /// Returns the offset of the error of an attribute with this payload, in bytes from the
+    /// attribute's header, or `None` if the payload is accepted.
+    ///
+    /// It is the offset of the innermost attribute that has the error, or of the bytes where no
+    /// header is accepted: 0 if the error is the payload's own. Does not allocate.
+    fn error_offset(payload: &[u8]) -> Option<usize>;
+
+    /// Returns the first difference of two attributes of this family with such payloads, or `None`
+    /// if the payloads are equivalent: in their lists if they are lists, otherwise of both
+    /// attributes as a whole.
+    ///
+    /// Offsets are in bytes from the beginning of the lists that the attributes are in. Requires
+    /// that each payload is accepted. Does not allocate.
+    ///
+    /// # Panics
+    ///
+    /// May panic where a condition of the caller that is named here does not hold. Where it does
+    /// not panic then, the result has no meaning.
+    fn difference(family: Family, a: &PlacedNla<'_>, b: &PlacedNla<'_>) -> Option<Difference>;
+
+    /// Returns what of the attribute `want` of this family the attribute `have`, both with such
+    /// payloads, does not meet: the first attribute that is not met in its list, if it contains
+    /// one, otherwise all of it. Equal and equivalent payloads meet one another.
+    ///
+    /// Offsets are in bytes from the beginning of the lists that the attributes are in. Requires
+    /// that each payload is accepted. Does not allocate.
+    ///
+    /// # Panics
+    ///
+    /// May panic where a condition of the caller that is named here does not hold. Where it does
+    /// not panic then, the result has no meaning.
+    fn unmet(family: Family, have: &PlacedNla<'_>, want: &PlacedNla<'_>) -> Option<Unmet>;
 }

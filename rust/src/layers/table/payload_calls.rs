@@ -5,9 +5,12 @@
 use crate::compat::NextMultiple;
 use crate::compat::TryVec;
 use crate::layers::nla_frame::{DecodeError, HeaderCount, NlaBuffer, write_frame};
+use crate::layers::table::difference::Difference;
+use crate::layers::table::last::PlacedNla;
 use crate::layers::table::payload::LinkPayload;
 use crate::layers::table::payload_row::PayloadRow;
 use crate::layers::table::row_family::RowFamily;
+use crate::layers::table::unmet::Unmet;
 use alloc::vec::Vec;
 
 /// The flag bit of an attribute that contains attributes (include/uapi/linux/netlink.h).
@@ -133,4 +136,51 @@ fn write_framed<F: RowFamily, R: PayloadRow<F>>(nla: &NlaBuffer<'_>, buffer: &mu
     let len = R::Payload::write_canonical(nla.value(), &mut buffer[4..]);
     write_frame(buffer, payload_kind::<F, R>(), len);
     4 + len.next_multiple_of_four()
+}
+
+/// The offset of the error of an attribute of the row, in bytes from its header, or `None` if the
+/// attribute is accepted. Does not allocate.
+///
+/// # Panics
+///
+/// May panic where a condition of the caller that is named here does not hold. Where it does
+/// not panic then, the result has no meaning.
+#[must_use]
+pub fn payload_error<F: RowFamily, R: PayloadRow<F>>(
+    nla: &NlaBuffer<'_>,
+    ctx: F::Context,
+) -> Option<usize> {
+    R::Payload::error_offset(nla.value())
+}
+
+/// The first difference of two attributes of the row, or `None` if they are equivalent. Requires
+/// that each is accepted. Does not allocate.
+///
+/// # Panics
+///
+/// May panic where a condition of the caller that is named here does not hold. Where it does
+/// not panic then, the result has no meaning.
+#[must_use]
+pub fn payload_difference<F: RowFamily, R: PayloadRow<F>>(
+    a: &PlacedNla<'_>,
+    b: &PlacedNla<'_>,
+    ctx: F::Context,
+) -> Option<Difference> {
+    R::Payload::difference(F::FAMILY, a, b)
+}
+
+/// What of the attribute `want` of the row the attribute `have` of it does not meet. Requires that
+/// each is accepted. Does not allocate.
+///
+/// # Panics
+///
+/// May panic where a condition of the caller that is named here does not hold. Where it does
+/// not panic then, the result has no meaning.
+#[must_use]
+pub fn payload_unmet<F: RowFamily, R: PayloadRow<F>>(
+    have: &PlacedNla<'_>,
+    want: &PlacedNla<'_>,
+    ctx: F::Context,
+) -> Option<Unmet> {
+    R::Payload::unmet(F::FAMILY, have, want)
 }

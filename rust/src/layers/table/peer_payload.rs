@@ -3,8 +3,11 @@
 //! A peer as a payload.
 
 use crate::layers::nla_frame::{Cause, DecodeError, Family, HeaderCount};
+use crate::layers::table::difference::{Difference, whole_difference};
+use crate::layers::table::last::PlacedNla;
 use crate::layers::table::payload::LinkPayload;
 use crate::layers::table::peer::{LinkPeer, PeerFault};
+use crate::layers::table::unmet::{Unmet, unmet_as_whole};
 
 /// A peer of a pair of links. A payload that means no peer has the cause `Peer`.
 impl<P: LinkPeer> LinkPayload for P {
@@ -58,6 +61,25 @@ impl<P: LinkPeer> LinkPayload for P {
 
     fn write_canonical(payload: &[u8], buffer: &mut [u8]) -> usize {
         <P as LinkPeer>::write_canonical(payload, buffer)
+    }
+
+    fn error_offset(payload: &[u8]) -> Option<usize> {
+        if <P as LinkPeer>::check(payload) {
+            None
+        } else {
+            Some(0)
+        }
+    }
+
+    fn difference(family: Family, a: &PlacedNla<'_>, b: &PlacedNla<'_>) -> Option<Difference> {
+        let is_same = <P as LinkPeer>::same(a.nla.value(), b.nla.value());
+        whole_difference(family, is_same, a, b)
+    }
+
+    fn unmet(family: Family, have: &PlacedNla<'_>, want: &PlacedNla<'_>) -> Option<Unmet> {
+        let is_met = have.nla.value() == want.nla.value()
+            || <P as LinkPeer>::same(have.nla.value(), want.nla.value());
+        unmet_as_whole(family, is_met, have, want)
     }
 }
 

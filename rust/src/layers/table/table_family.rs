@@ -6,9 +6,12 @@
 
 use crate::layers::nla_frame::{DecodeError, Family, HeaderCount, Nla, NlaBuffer};
 use crate::layers::table::custom_rows::CustomRows;
+use crate::layers::table::difference::Difference;
 use crate::layers::table::family::LinkFamily;
+use crate::layers::table::last::PlacedNla;
 use crate::layers::table::lookup::Lookup;
 use crate::layers::table::row_family::RowFamily;
+use crate::layers::table::unmet::Unmet;
 use alloc::vec::Vec;
 
 /// A family of which each row is one of `Custom`, or has a shape of the table, and that writes its
@@ -19,12 +22,17 @@ pub trait TableFamily: RowFamily + Nla {
     /// The rows whose payloads are values of types of their own: `()` for none, else a pair of the
     /// first one and the others.
     type Custom: CustomRows<Self>;
+
+    /// Whether a list of the attributes is a set: in any order, and a request adds to it.
+    const IS_SET: bool;
 }
 
 impl<F: TableFamily> LinkFamily for F {
     type Context = <F as RowFamily>::Context;
 
     const FAMILY: Family = <F as RowFamily>::FAMILY;
+
+    const IS_SET: bool = <F as TableFamily>::IS_SET;
 
     fn shape(ctx: <F as RowFamily>::Context, kind: u16) -> Lookup {
         <F as RowFamily>::shape(ctx, kind)
@@ -76,5 +84,25 @@ impl<F: TableFamily> LinkFamily for F {
         buffer: &mut [u8],
     ) -> usize {
         <F as TableFamily>::Custom::write_canonical(nla, ctx, buffer)
+    }
+
+    fn error_offset(nla: &NlaBuffer<'_>, ctx: <F as RowFamily>::Context) -> Option<usize> {
+        <F as TableFamily>::Custom::error_offset(nla, ctx)
+    }
+
+    fn difference(
+        a: &PlacedNla<'_>,
+        b: &PlacedNla<'_>,
+        ctx: <F as RowFamily>::Context,
+    ) -> Option<Difference> {
+        <F as TableFamily>::Custom::difference(a, b, ctx)
+    }
+
+    fn unmet(
+        have: &PlacedNla<'_>,
+        want: &PlacedNla<'_>,
+        ctx: <F as RowFamily>::Context,
+    ) -> Option<Unmet> {
+        <F as TableFamily>::Custom::unmet(have, want, ctx)
     }
 }

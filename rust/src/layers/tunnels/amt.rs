@@ -80,6 +80,8 @@ impl RowFamily for InfoAmt {
 
 impl TableFamily for InfoAmt {
     type Custom = ();
+
+    const IS_SET: bool = false;
 }
 
 impl Nla for InfoAmt {

@@ -69,6 +69,8 @@ impl RowFamily for InfoBareUdp {
 
 impl TableFamily for InfoBareUdp {
     type Custom = ();
+
+    const IS_SET: bool = false;
 }
 
 impl Nla for InfoBareUdp {

@@ -107,6 +107,8 @@ impl RowFamily for InfoGeneve {
 
 impl TableFamily for InfoGeneve {
     type Custom = ();
+
+    const IS_SET: bool = false;
 }
 
 impl Nla for InfoGeneve {

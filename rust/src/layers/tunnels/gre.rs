@@ -118,6 +118,8 @@ impl RowFamily for InfoGre {
 
 impl TableFamily for InfoGre {
     type Custom = ();
+
+    const IS_SET: bool = false;
 }
 
 impl Nla for InfoGre {

@@ -121,6 +121,8 @@ impl RowFamily for InfoGre6 {
 
 impl TableFamily for InfoGre6 {
     type Custom = ();
+
+    const IS_SET: bool = false;
 }
 
 impl Nla for InfoGre6 {

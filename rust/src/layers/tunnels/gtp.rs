@@ -79,6 +79,8 @@ impl RowFamily for InfoGtp {
 
 impl TableFamily for InfoGtp {
     type Custom = ();
+
+    const IS_SET: bool = false;
 }
 
 impl Nla for InfoGtp {

@@ -188,6 +188,8 @@ impl Nla for InfoIpTunnel {
 
 impl TableFamily for InfoIpTunnel {
     type Custom = ();
+
+    const IS_SET: bool = false;
 }
 
 /// Reads the attribute of a link of this kind. A payload of invalid length is rejected as

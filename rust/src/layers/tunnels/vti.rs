@@ -73,6 +73,8 @@ impl RowFamily for InfoVti {
 
 impl TableFamily for InfoVti {
     type Custom = ();
+
+    const IS_SET: bool = false;
 }
 
 impl Nla for InfoVti {

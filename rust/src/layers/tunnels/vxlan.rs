@@ -167,6 +167,8 @@ impl RowFamily for InfoVxlan {
 
 impl TableFamily for InfoVxlan {
     type Custom = ();
+
+    const IS_SET: bool = false;
 }
 
 impl Nla for InfoVxlan {

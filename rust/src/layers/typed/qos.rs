@@ -58,6 +58,8 @@ impl RowFamily for VlanQosMapping {
 
 impl TableFamily for VlanQosMapping {
     type Custom = ();
+
+    const IS_SET: bool = true;
 }
 
 impl Nla for VlanQosMapping {

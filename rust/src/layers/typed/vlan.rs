@@ -138,6 +138,8 @@ impl<T> PayloadRow<InfoVlan> for IngressQosRow<T> {
 
 impl TableFamily for InfoVlan {
     type Custom = (EgressQosRow<()>, (IngressQosRow<()>, ()));
+
+    const IS_SET: bool = false;
 }
 
 impl Nla for InfoVlan {

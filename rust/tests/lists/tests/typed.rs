@@ -8,8 +8,8 @@ use linkinfo::layers::link::typed::{
     self, InfoData, InfoVlan, LinkInfo, Typed, VecLinkInfo, VlanQosMapping,
 };
 use linkinfo::layers::link::{
-    Bytes, Cause, DecodeError, Family, Flags, HeaderCount, InfoKind, VlanFlags, VlanProtocol,
-    check, check_counted_of, same as same_at_root,
+    Bytes, Cause, DecodeError, Difference, Family, Flags, HeaderCount, InfoKind, VlanFlags,
+    VlanProtocol, check, check_counted_of, first_difference, first_unmet, same as same_at_root,
 };
 
 /// Strings that are rejected, and their errors: an ID of one byte; a mapping of four bytes, also
@@ -203,6 +203,119 @@ fn equivalent_vlan_links() {
         let difference = typed::first_difference(&a, &b).expect("accepted lists");
         assert_holds(first, difference.is_none() == *same);
     }
+}
+
+/// Strings that are rejected inside data at offset 12, and the offset of the innermost attribute
+/// that has the error, or of the bytes that are no header: an ID; the first mapping of a list; the
+/// second one; a byte in place of the first mapping; and one after it.
+const INNER: &[(&str, usize)] = &[
+    ("09000100 766c616e 00000000 09000200 05000100 07", 16),
+    (
+        "09000100 766c616e 00000000 10000200 0c000300 08000100 00000000",
+        20,
+    ),
+    (
+        "09000100 766c616e 00000000 1c000200 18000300 0c000100 01000000 02000000 08000100 00000000",
+        32,
+    ),
+    ("09000100 766c616e 00000000 09000200 05000300 01", 20),
+    (
+        "09000100 766c616e 00000000 15000200 11000300 0c000100 01000000 02000000 01",
+        32,
+    ),
+];
+
+#[test]
+fn places_of_errors_in_vlan_links() {
+    for (text, inner) in INNER {
+        let bytes = bytes_of(text);
+        let at = typed::check_at(&bytes).err();
+        let places = at.map(|at| (at.place, at.inner));
+        assert_equal(text, &places, &Some((12, *inner)));
+    }
+}
+
+/// The lists of the tests below: the mappings 1 to 2 and 3 to 4, in this order and in the other
+/// one; 1 to 2 alone; and 1 to 3 alone, in a list after a shorter name.
+const TWO: &str = "09000100 766c616e 00000000 20000200 1c000300 0c000100 01000000 02000000 \
+                   0c000100 03000000 04000000";
+
+const TURNED: &str = "09000100 766c616e 00000000 20000200 1c000300 0c000100 03000000 04000000 \
+                      0c000100 01000000 02000000";
+
+const ONE: &str = "09000100 766c616e 00000000 14000200 10000300 0c000100 01000000 02000000";
+
+const OTHER: &str = "08000100 766c616e 14000200 10000300 0c000100 01000000 03000000";
+
+/// Two lists, and their first difference: of mappings in lists, of which the second may have ended.
+const DIFFERENT: &[(&str, &str, Option<usize>, Option<usize>)] = &[
+    (TWO, TURNED, Some(20), Some(20)),
+    (TWO, ONE, Some(32), None),
+    (ONE, TWO, None, Some(32)),
+    (ONE, OTHER, Some(20), Some(16)),
+];
+
+#[test]
+fn differences_in_lists_of_vlan_links() {
+    for (a, b, first, second) in DIFFERENT {
+        let one = bytes_of(a);
+        let other = bytes_of(b);
+        let difference = typed::first_difference(&one, &other).expect("accepted lists");
+        let expected = Difference {
+            family: Family::VlanQosMapping,
+            kind: 1,
+            first: *first,
+            second: *second,
+        };
+        assert_equal(&(a, b), &difference, &Some(expected));
+        let opaque = first_difference(&one, &other).expect("accepted lists");
+        let found = opaque.map(|it| (it.family, it.kind));
+        assert_equal(&(a, b), &found, &Some((Family::Vlan, 3)));
+    }
+}
+
+/// Lists, and what the mappings 1 to 2 and 3 to 4 do not meet of them: nothing of either mapping,
+/// in any order, and with a flag bit of its type; one that is not there; an attribute of a mapping
+/// list that has another type; and a list that is not there.
+const WANTED: &[(&str, Option<(Family, u16, usize)>)] = &[
+    (TWO, None),
+    (TURNED, None),
+    (ONE, None),
+    (
+        "09000100 766c616e 00000000 14000200 10000300 0c000140 03000000 04000000",
+        None,
+    ),
+    ("09000100 766c616e 00000000 08000200 04000300", None),
+    (OTHER, Some((Family::VlanQosMapping, 1, 16))),
+    (
+        "09000100 766c616e 00000000 20000200 1c000300 0c000100 01000000 02000000 0c000100 05000000 \
+         06000000",
+        Some((Family::VlanQosMapping, 1, 32)),
+    ),
+    (
+        "09000100 766c616e 00000000 0d000200 09000300 05000200 07",
+        Some((Family::VlanQosMapping, 2, 20)),
+    ),
+    (
+        "09000100 766c616e 00000000 14000200 10000400 0c000100 01000000 02000000",
+        Some((Family::Vlan, 4, 16)),
+    ),
+];
+
+#[test]
+fn mappings_of_vlan_links_are_met() {
+    let have = bytes_of(TWO);
+    for (text, expected) in WANTED {
+        let want = bytes_of(text);
+        let unmet = typed::first_unmet(&have, &want).expect("accepted lists");
+        let told = unmet.map(|it| (it.family, it.kind, it.want, it.have));
+        let wanted = expected.map(|(family, kind, want)| (family, kind, want, None));
+        assert_equal(text, &told, &wanted);
+    }
+    let want = bytes_of(ONE);
+    let opaque = first_unmet(&have, &want).expect("accepted lists");
+    let told = opaque.map(|it| (it.family, it.kind, it.want, it.have));
+    assert_equal(&ONE, &told, &Some((Family::Vlan, 3, 16, Some(16))));
 }
 
 #[test]

@@ -148,10 +148,10 @@ fn unmet(family: Family, at: &Option<(u16, usize, Option<usize>)>) -> Option<Unm
 
 /// What `have` lacks of `want`, two payloads that are accepted as lists of a family.
 fn unmet_of<D, F: PayloadFamily<D>>(family: F, have: &[u8], want: &[u8]) -> Option<Unmet> {
-    let name = family.listing().expect("a list");
+    let _name = family.listing().expect("a list");
     check_payload::<D, F>(family, have, &mut HeaderCount::new()).expect("accepted");
     check_payload::<D, F>(family, want, &mut HeaderCount::new()).expect("accepted");
-    list_unmet::<D, F>(family, name, have, want)
+    list_unmet::<D, F>(family, have, want)
 }
 
 /// Asserts what is not met in a case, of a family.

@@ -3,7 +3,7 @@ use Rattle.std.proofs.Common.{◌≡◌, ◌*◌, ◌+◌, ◌≤◌, length}
 use Rattle.nla_frame.specs.NlaItems.{nla_items}
 use Rattle.nla_frame.specs.declared.error.Family.TheVariants as family
 use Rattle.linkinfo_table.proofs.Lasts.{left_of}
-use Rattle.linkinfo_data.specs.Difference.{pairs_difference}
+use Rattle.linkinfo_table.specs.Difference.{pairs_difference}
 use Rattle.linkinfo.specs.Difference.{link_difference, strings_difference}
 use Rattle.linkinfo.specs.Strings.{next_kinds, values_from}
 use Rattle.linkinfo.proofs.difference.first_difference_in.Given as goal

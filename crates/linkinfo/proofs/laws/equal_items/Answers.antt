@@ -8,7 +8,7 @@ use Rattle.linkinfo_numbers.specs.contracts.tags.PortTagExactEq.TheImpl.Laws.{
   exact-law as port_exact,
 }
 use Rattle.nla_frame.specs.Derived.{fields_decide, two_fields}
-use Rattle.linkinfo_data.specs.Equal.{option_decides}
+use Rattle.linkinfo_table.specs.Equal.{option_decides}
 use Rattle.linkinfo.specs.Walks.{held}
 use Rattle.linkinfo.proofs.laws.equal_items.Goals as goal
 

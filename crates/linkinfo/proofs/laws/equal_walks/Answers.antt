@@ -2,7 +2,7 @@ use Rattle.std.specs.Prelude.{refl}
 use Rattle.std.proofs.lemmas.Bool.Decides.{Decides-eqb}
 use Rattle.nla_frame.specs.Derived.{fields_decide, two_fields}
 use Rattle.nla_frame.specs.Same.{same_walk_decides}
-use Rattle.linkinfo_data.specs.Equal.{option_decides}
+use Rattle.linkinfo_table.specs.Equal.{option_decides}
 use Rattle.linkinfo.specs.contracts.role.CurrentKindsExactEq.TheImpl.Laws.{exact-law as kinds_exact}
 use Rattle.linkinfo.proofs.laws.equal_walks.Goals as goal
 

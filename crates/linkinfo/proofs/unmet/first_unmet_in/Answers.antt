@@ -1,22 +1,25 @@
 use Rattle.std.proofs.Common.{arith, ap, nat_lt, sym, ◌∙◌, Option}
 use Rattle.linkinfo_table.specs.Last.{attributes_of}
-use Rattle.linkinfo_data.specs.Unmet.{earlier, first_told}
-use Rattle.linkinfo_data.specs.declared.unmet.UnmetAt.{UnmetAt}
-use Rattle.linkinfo_data.proofs.Blocks.{next_block, none_below, unmet_in}
-use Rattle.linkinfo.specs.Unmet.{counted_unmet}
-use Rattle.linkinfo.proofs.Unmets.{whole_list}
+use Rattle.linkinfo_table.specs.Unmet.{counted_unmet, earlier, first_told}
+use Rattle.linkinfo_table.specs.declared.unmet.UnmetAt.{UnmetAt}
+use Rattle.linkinfo_table.proofs.Blocks.{next_block, none_below, unmet_in, whole_list}
+use Rattle.linkinfo.specs.Unmet.{linked_unmet}
 use Rattle.linkinfo.proofs.unmet.first_unmet_in.Goals as goal
 
 pub loop-block-init : goal.loop-block-init
 loop-block-init g c =
     let layer = g.P.DataLayer.families in
-    let unmet = counted_unmet layer c.args.have.now c.args.want.now in
+    let unmet =
+    counted_unmet (linked_unmet layer c.args.have.now c.args.want.now)
+    (attributes_of c.args.have.now) (attributes_of c.args.want.now) in
     record { first = sym (none_below unmet (attributes_of c.args.want.now)) }
 
 pub loop-block-preserved : goal.loop-block-preserved
 loop-block-preserved g c =
     let layer = g.P.DataLayer.families in
-    let unmet = counted_unmet layer c.args.have.now c.args.want.now in
+    let unmet =
+    counted_unmet (linked_unmet layer c.args.have.now c.args.want.now)
+    (attributes_of c.args.have.now) (attributes_of c.args.want.now) in
     let want = attributes_of c.args.want.now in
     record {
       first =
@@ -34,16 +37,22 @@ overflow_add-block g c = omega (arith, c.loop-block-test.true, c.types_end-end.e
 pub returns-in_err-first : goal.returns-in_err-first
 returns-in_err-first g c =
     let layer = g.P.DataLayer.families in
+    let unmet =
+    counted_unmet (linked_unmet layer c.args.have.now c.args.want.now)
+    (attributes_of c.args.have.now) (attributes_of c.args.want.now) in
     c.from_residual.ensures
     ∙ (ap unmet_in (sym c.in_err-first.was)
-    ∙ whole_list layer c.args.have.now c.args.want.now c.loop-block.block c.loop-block.first
+    ∙ whole_list unmet (attributes_of c.args.want.now) c.loop-block.block c.loop-block.first
     c.loop-block.invariant.first
     (omega (arith, c.loop-block-test.false, c.types_end-end.ensures.end)))
 
 pub returns : goal.returns
 returns g c =
     let layer = g.P.DataLayer.families in
+    let unmet =
+    counted_unmet (linked_unmet layer c.args.have.now c.args.want.now)
+    (attributes_of c.args.have.now) (attributes_of c.args.want.now) in
     ap unmet_in (sym c.in_ok-first.was)
-    ∙ whole_list layer c.args.have.now c.args.want.now c.loop-block.block c.loop-block.first
+    ∙ whole_list unmet (attributes_of c.args.want.now) c.loop-block.block c.loop-block.first
     c.loop-block.invariant.first
     (omega (arith, c.loop-block-test.false, c.types_end-end.ensures.end))

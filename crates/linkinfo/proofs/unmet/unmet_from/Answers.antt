@@ -3,13 +3,22 @@ use Rattle.std.specs.Option.{option_map}
 use Rattle.linkinfo_table.specs.Last.{attributes_of, covers, has_type}
 use Rattle.linkinfo_table.specs.declared.last.PlacedNla.{PlacedNla}
 use Rattle.linkinfo_table.proofs.Lasts.{last_holds, left_at_attribute, left_at_start}
-use Rattle.linkinfo_data.specs.declared.unmet.Unmet.{Unmet}
-use Rattle.linkinfo_data.specs.declared.unmet.UnmetAt.{UnmetAt}
-use Rattle.linkinfo.specs.Unmet.{counted_unmet, link_at}
+use Rattle.linkinfo_table.specs.Unmet.{counted_unmet}
+use Rattle.linkinfo_table.specs.declared.unmet.Unmet.{Unmet}
+use Rattle.linkinfo_table.specs.declared.unmet.UnmetAt.{UnmetAt}
+use Rattle.linkinfo_table.proofs.Blocks.{told_later}
+use Rattle.linkinfo_table.proofs.Unmets.{
+  and_both,
+  counts_found,
+  indexed_holds,
+  indexed_type,
+  last_found,
+  not_told,
+  told_is,
+}
+use Rattle.linkinfo.specs.Unmet.{link_at, linked_unmet}
 use Rattle.linkinfo.specs.UnmetSteps.{IsAcceptedLink}
-use Rattle.linkinfo_data.proofs.Blocks.{told_later}
-use Rattle.linkinfo_data.proofs.Unmets.{and_both, counts_found, indexed_holds, last_found}
-use Rattle.linkinfo.proofs.Unmets.{indexed_type, links_accepted, not_told, told_is}
+use Rattle.linkinfo.proofs.Unmets.{links_accepted}
 use Rattle.linkinfo.proofs.unmet.unmet_from.Goals as goal
 
 pub loop-nla-init : goal.loop-nla-init
@@ -44,8 +53,12 @@ loop-nla-preserved g c =
       accepted = (rw front at before.accepted).1;
       left =
           sym
-          (told_later (covers c.args.start) (counted_unmet layer have want) w _
-          (not_told layer c.args.start have want w is)) ∙ (rw front at before.left);
+          (told_later (covers c.args.start)
+          (counted_unmet (linked_unmet layer have want) (attributes_of have) (attributes_of want)) w
+          _
+          (not_told (linked_unmet layer have want) c.args.start (attributes_of have)
+          (attributes_of want) w is))
+          ∙ (rw front at before.left);
       room = omega (arith, step.counted, step.room, before.room);
     }
 
@@ -85,13 +98,15 @@ loop-nla-preserved-in_default-placed_unmet g c =
     last_found have c.args.start c.new-found.result w c.kind-kind.result c.new-found.ensures
     c.kind-kind.ensures c.find-last.result c.find-last.ensures.last (and_both _ _ counted).0 in
     let told =
-    told_is layer c.args.start have want w c.find-last.result c.placed_unmet.result counted found
-    c.placed_unmet.ensures in
+    told_is (linked_unmet layer have want) c.args.start (attributes_of have) (attributes_of want) w
+    c.find-last.result c.placed_unmet.result counted found c.placed_unmet.ensures in
     record {
       accepted = (rw front at before.accepted).1;
       left =
           sym
-          (told_later (covers c.args.start) (counted_unmet layer have want) w _
+          (told_later (covers c.args.start)
+          (counted_unmet (linked_unmet layer have want) (attributes_of have) (attributes_of want)) w
+          _
           (told
           ∙ ap (λ (o : Option Unmet).
           option_map (λ u. let t : UnmetAt = record { offset = w.offset; unmet = u } in t) o)

@@ -2,15 +2,17 @@ use Rattle.std.specs.List.{AllByRecursion}
 use Rattle.std.proofs.Common.{◌≡◌, ◌*◌, ◌+◌, ◌≤◌, length}
 use Rattle.linkinfo_table.specs.Last.{attributes_of, covers}
 use Rattle.linkinfo_table.proofs.Lasts.{left_of}
-use Rattle.linkinfo_data.specs.Unmet.{first_told}
-use Rattle.linkinfo.specs.Unmet.{counted_unmet, link_at}
+use Rattle.linkinfo_table.specs.Unmet.{counted_unmet, first_told}
+use Rattle.linkinfo.specs.Unmet.{link_at, linked_unmet}
 use Rattle.linkinfo.specs.UnmetSteps.{IsAcceptedLink}
 use Rattle.linkinfo.proofs.unmet.unmet_from.Given as goal
 
 abbrev pub invariant-loop-nla : goal.invariant-loop-nla
 invariant-loop-nla g l =
     let layer = g.P.DataLayer.families in
-    let unmet = counted_unmet layer l.have l.want in
+    let unmet =
+    counted_unmet (linked_unmet layer l.have l.want) (attributes_of l.have) (attributes_of l.want)
+    in
     record {
       accepted : AllByRecursion (λ p. IsAcceptedLink layer (link_at l.want p))
           (left_of l.want l.rest);

@@ -10,7 +10,7 @@ returns-clause-permuted g c = λ distinct moved.
     (nlas_of c.args.other.now) distinct moved
 
 pub returns-clause-data : goal.returns-clause-data
-returns-clause-data g c = λ name alike p q order. data_reordered name alike p q order
+returns-clause-data g c = λ l inside p q order. data_reordered l inside p q order
 
 pub returns-clause-list : goal.returns-clause-list
 returns-clause-list g c = λ first second order.

@@ -11,6 +11,6 @@ returns g c = λ first second same.
     alike_turned layer c.families_lawful.ensures bytes other
     (λ i. omega (arith, c.type_inv.bytes i))
     (λ i. omega (arith, c.type_inv.other i)) first second same in (
-      alike_met layer g.met.P.DataLayer.is_layer bytes other first same,
-      alike_met layer g.met.P.DataLayer.is_layer other bytes second turned,
+      alike_met layer c.families_lawful.ensures bytes other first same,
+      alike_met layer c.families_lawful.ensures other bytes second turned,
     )

@@ -3,8 +3,8 @@ use Rattle.linkinfo.proofs.MetStays.{data_stays, string_stays}
 use Rattle.linkinfo.proofs.unmet_laws.stays_met.Goals as goal
 
 pub returns-clause-data : goal.returns-clause-data
-returns-clause-data g c = λ name alike have more want same e.
-    data_stays name alike have more want same e
+returns-clause-data g c = λ l inside have more want stay e.
+    data_stays l inside have more want stay e
 
 pub returns-clause-list : goal.returns-clause-list
 returns-clause-list g c = λ have more want same e.

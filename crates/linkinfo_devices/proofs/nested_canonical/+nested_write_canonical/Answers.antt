@@ -1,19 +1,5 @@
-use Rattle.std.proofs.Common.{
-  ◌∙◌,
-  ◌+◌,
-  ◌-◌,
-  ◌≤◌,
-  ◌++◌,
-  drop,
-  length,
-  refl,
-  sym,
-  ap,
-  subst,
-  arith,
-  rules,
-}
-use Rattle.nla_frame.specs.Attribute.{Attribute, Fits, buffer_len_of, canonical_string}
+use Rattle.std.proofs.Common.{◌∙◌, ◌+◌, ◌-◌, ◌≤◌, length, refl, sym, subst, arith, rules}
+use Rattle.nla_frame.specs.Attribute.{Attribute, Fits, buffer_len_of}
 use Rattle.nla_frame.specs.NlaItems.{nla_items}
 use Rattle.nla_frame.specs.Writing.{WritesAttribute}
 use Rattle.nla_frame.proofs.Emitting.{framed_after}

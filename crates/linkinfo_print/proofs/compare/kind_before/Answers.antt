@@ -1,6 +1,6 @@
 use Rattle.std.proofs.Common.{◌≡◌, Option, Some, None, refl}
 use Rattle.std.proofs.lemmas.List.{take_min}
-use Rattle.linkinfo_data.specs.Difference.{first_or}
+use Rattle.linkinfo_table.specs.Difference.{first_or}
 use Rattle.linkinfo_print.proofs.compare.kind_before.Goals as goal
 
 first_or_none : {A : Type 0} (o : Option A) → first_or o None ≡ o

@@ -1,5 +1,5 @@
 use Rattle.std.proofs.Common.{◌≡◌, length}
-use Rattle.linkinfo_data.specs.Difference.{first_or}
+use Rattle.linkinfo_table.specs.Difference.{first_or}
 use Rattle.linkinfo.specs.Strings.{last_kind}
 use Rattle.linkinfo_view.specs.Attributes.{attributes}
 use Rattle.linkinfo_print.specs.PairData.{kind_before}

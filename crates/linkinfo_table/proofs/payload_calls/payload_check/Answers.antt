@@ -1,6 +1,7 @@
 use Rattle.std.proofs.Common.{ap, arith, ◌∙◌, length}
 use Rattle.nla_frame.specs.Attribute.{masked}
-use Rattle.linkinfo_table.proofs.RowPayloads.{checked, in_call, row_means}
+use Rattle.linkinfo_table.specs.TypedRows.{row_means}
+use Rattle.linkinfo_table.proofs.RowPayloads.{checked, in_call}
 use Rattle.linkinfo_table.proofs.payload_calls.payload_check.Goals as goal
 
 pub returns : goal.returns

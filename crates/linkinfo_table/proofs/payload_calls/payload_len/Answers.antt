@@ -2,7 +2,8 @@ use Rattle.std.proofs.Common.{length, sym, subst}
 use Rattle.std.specs.Prelude.{SomeIff}
 use Rattle.nla_frame.specs.Attribute.{Attribute, Fits, masked}
 use Rattle.linkinfo_table.specs.Rows.{written_kind}
-use Rattle.linkinfo_table.proofs.RowPayloads.{accepted, attribute_is, row_means}
+use Rattle.linkinfo_table.specs.TypedRows.{row_means}
+use Rattle.linkinfo_table.proofs.RowPayloads.{accepted, attribute_is}
 use Rattle.linkinfo_table.proofs.payload_calls.payload_len.Goals as goal
 
 pub canonical_len-requires : goal.canonical_len-requires

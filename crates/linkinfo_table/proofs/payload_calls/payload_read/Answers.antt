@@ -1,13 +1,7 @@
 use Rattle.std.proofs.Common.{sym, ap, arith, ◌∙◌, length}
 use Rattle.nla_frame.specs.Attribute.{masked}
-use Rattle.linkinfo_table.proofs.RowPayloads.{
-  certain_value,
-  gives_value,
-  in_call,
-  on_value,
-  row_means,
-  row_needs,
-}
+use Rattle.linkinfo_table.specs.TypedRows.{row_means, row_needs}
+use Rattle.linkinfo_table.proofs.RowPayloads.{certain_value, gives_value, in_call, on_value}
 use Rattle.linkinfo_table.proofs.payload_calls.payload_read.Goals as goal
 
 pub returns : goal.returns

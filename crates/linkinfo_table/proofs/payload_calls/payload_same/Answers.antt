@@ -1,13 +1,7 @@
 use Rattle.std.proofs.Common.{sym, ap, arith, ◌∙◌, length}
 use Rattle.nla_frame.specs.Attribute.{masked}
-use Rattle.linkinfo_table.proofs.RowPayloads.{
-  accepted,
-  on_true,
-  other_type,
-  row_compares,
-  row_means,
-  same_type,
-}
+use Rattle.linkinfo_table.specs.TypedRows.{row_compares, row_means}
+use Rattle.linkinfo_table.proofs.RowPayloads.{accepted, on_true, other_type, same_type}
 use Rattle.linkinfo_table.proofs.payload_calls.payload_same.Goals as goal
 
 pub same-requires-clause-first : goal.same-requires-clause-first

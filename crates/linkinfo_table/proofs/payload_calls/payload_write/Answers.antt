@@ -2,7 +2,8 @@ use Rattle.std.proofs.Common.{◌≤◌, length, refl, sym, subst}
 use Rattle.nla_frame.specs.Attribute.{Attribute, Fits, buffer_len_of, masked}
 use Rattle.nla_frame.specs.Writing.{WritesAttribute}
 use Rattle.linkinfo_table.specs.Rows.{written_kind}
-use Rattle.linkinfo_table.proofs.RowPayloads.{accepted, attribute_is, row_means}
+use Rattle.linkinfo_table.specs.TypedRows.{row_means}
+use Rattle.linkinfo_table.proofs.RowPayloads.{accepted, attribute_is}
 use Rattle.linkinfo_table.proofs.payload_calls.payload_write.Goals as goal
 
 pub write_framed-requires-clause-accepted : goal.write_framed-requires-clause-accepted

@@ -27,12 +27,12 @@ pub returns-clause-vlan_egress_qos : goal.returns-clause-vlan_egress_qos
 returns-clause-vlan_egress_qos c =
     holds_list family.Vlan (λ d. vlan.Other d) vlan_attribute vlan_rows vlan_lists
     vlan_qos_mapping_members (Nested family.VlanQosMapping) false 3 3 (λ xs. vlan.EgressQos xs)
-    has_payload (λ _. refl) (λ _. refl)
+    has_payload (λ _. refl) (λ _. refl) refl
 
 pub returns-clause-vlan_ingress_qos : goal.returns-clause-vlan_ingress_qos
 returns-clause-vlan_ingress_qos c =
     holds_list family.Vlan (λ d. vlan.Other d) vlan_attribute vlan_rows vlan_lists
     vlan_qos_mapping_members (Nested family.VlanQosMapping) false 4 4 (λ xs. vlan.IngressQos xs)
-    has_payload (λ _. refl) (λ _. refl)
+    has_payload (λ _. refl) (λ _. refl) refl
 
 -- End: written by tables/generate.
