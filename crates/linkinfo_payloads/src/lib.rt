@@ -1,0 +1,15 @@
+//! Payloads of types of their own: records of fields at fixed places, arrays of numbers, and lists
+//! of addresses.
+#![tactic(auto)]
+
+mod bridge_id;
+mod exact;
+mod fields;
+mod fixed;
+mod record;
+
+pub use bridge_id::BridgeId;
+pub use exact::ExactPayload;
+pub use fields::Fields;
+pub use fixed::{BigEndian, Fixed};
+pub use record::Record;
