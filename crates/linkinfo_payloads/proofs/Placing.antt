@@ -4,6 +4,7 @@ use Rattle.std.proofs.Common.{
   ℕ,
   ◌+◌,
   ◌-◌,
+  ◌<◌,
   ◌≤◌,
   List,
   [],
@@ -11,13 +12,22 @@ use Rattle.std.proofs.Common.{
   length,
   take,
   drop,
+  get_or,
   refl,
   sym,
   ap,
   ◌∙◌,
   arith,
 }
-use Rattle.std.proofs.lemmas.List.{append-nil, drop_at, length-append, length-drop, take_at}
+use Rattle.std.specs.List.{flat_map}
+use Rattle.std.proofs.lemmas.List.{
+  append-nil,
+  at_drop_more,
+  drop_at,
+  length-append,
+  length-drop,
+  take_at,
+}
 use borrow.Rule.Slice.PartMut.{put_mid}
 use Rattle.nla_frame.proofs.Emitting.{Written, all_taken, all_written, write_text}
 use Rattle.nla_frame.specs.Writing.{Writes}
@@ -53,3 +63,10 @@ two_written a b old buffer chunk at n k first size wide room new =
       taken = all_taken whole [] (at + n) old (put_mid at k buffer chunk) now refl;
       written = all_written whole [] (at + n) old (put_mid at k buffer chunk) now refl;
     }
+
+-- the bytes of the values from one on begin with its own
+pub one_value : {X : Type 0} (bytes : X → List ℕ) (xs : List X) (i : ℕ) (x : X) → i < length xs →
+    x ≡ get_or xs i x → flat_map bytes (drop i xs) ≡ bytes x ++ flat_map bytes (drop (i + 1) xs)
+one_value bytes xs i x h e =
+    at_drop_more (λ ys. flat_map bytes ys) xs i x h
+    ∙ ap (λ y. bytes y ++ flat_map bytes (drop (i + 1) xs)) (sym e)

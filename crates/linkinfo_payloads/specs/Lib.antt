@@ -1,3 +1,4 @@
+pub mod Arrays
 pub mod Exact
 pub mod Fixed
 pub mod Record

@@ -6,10 +6,12 @@ mod bridge_id;
 mod exact;
 mod fields;
 mod fixed;
+mod numbers;
 mod record;
 
 pub use bridge_id::BridgeId;
 pub use exact::ExactPayload;
 pub use fields::Fields;
 pub use fixed::{BigEndian, Fixed};
+pub use numbers::{Number, Numbers};
 pub use record::Record;
