@@ -1,1 +1,2 @@
+mod AddressSteps
 mod Placing

@@ -1,3 +1,4 @@
+pub mod Addresses
 pub mod Arrays
 pub mod Exact
 pub mod Fixed

@@ -152,7 +152,7 @@ pub fn exact_write<T: ExactPayload>(payload: &[u8], buffer: &mut [u8]) -> usize
 }
 
 /// The error of a payload of another length.
-fn refused(family: Family, kind: u16) -> DecodeError
+pub(crate) fn refused(family: Family, kind: u16) -> DecodeError
     ensures { result ≡ record { family = family; kind = kind; cause = cause.Length } }
 {
     DecodeError {

@@ -2,6 +2,7 @@
 //! of addresses.
 #![tactic(auto)]
 
+mod addresses;
 mod bridge_id;
 mod exact;
 mod fields;
@@ -9,6 +10,7 @@ mod fixed;
 mod numbers;
 mod record;
 
+pub use addresses::{Address, Addresses};
 pub use bridge_id::BridgeId;
 pub use exact::ExactPayload;
 pub use fields::Fields;
