@@ -23,6 +23,7 @@ use Rattle.std.specs.Prelude.{
   Result,
   Ok,
   Err,
+  IsOk,
   refl,
 }
 use Rattle.std.specs.Str.{bytes_eq}
@@ -40,6 +41,7 @@ use Rattle.nla_frame.specs.Attribute.{
   list_string,
   pad,
 }
+use Rattle.nla_frame.specs.Canonical.{bytes_for}
 use Rattle.nla_frame.specs.Error.{header_error, memory_error}
 use Rattle.nla_frame.specs.Framing.{Begins, Frames}
 use Rattle.nla_frame.specs.NlaItems.{nla_items, nla_items_of}
@@ -396,9 +398,20 @@ module _ {X : Type 0} (width : ℕ) (of : List ℕ → X) (bytes : X → List �
         frames_long frames.1 (b ∷ more) r.xs frames.4 r.others,
       )
 
-  pub address_long : (p : List ℕ) (xs : List X) → IsBytes p →
-      addresses width of (nla_items p) ≡ Ok xs → AllWell holds xs →
+  address_long : (p : List ℕ) (xs : List X) → IsBytes p → addresses width of (nla_items p) ≡ Ok xs →
       length p ≡ length (address_string bytes xs)
-  address_long p xs b e h =
+  address_long p xs b e =
       let u = accepted under after (tt {0}) p xs b (as_values (nla_items p) xs e) in
-      frames_long p u.front xs u.frames u.values_are ∙ sym (numbered_long 0 xs h)
+      frames_long p u.front xs u.frames u.values_are
+      ∙ sym (numbered_long 0 xs (address_is_codec.holds p xs b e))
+
+  pub canonical_long : (p : List ℕ) → IsBytes p → IsOk (addresses width of (nla_items p)) →
+      length p
+      ≡ length (bytes_for (λ (xs : List X). address_string bytes xs)
+      (addresses width of (nla_items p)))
+  canonical_long p b h = go (addresses width of (nla_items p)) refl h
+    where
+      go : (r : Result (List X) PayloadError) → addresses width of (nla_items p) ≡ r → IsOk r →
+          length p ≡ length (bytes_for (λ (xs : List X). address_string bytes xs) r)
+      go (Ok xs) e i = address_long p xs b e
+      go (Err d) e i = absurd cc

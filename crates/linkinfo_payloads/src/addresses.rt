@@ -346,6 +346,7 @@ fn address_emit<A: Address>(items: &[A], buffer: &mut [u8]) -> usize
     let mut place: usize = 0;
     let mut index: u16 = 0;
     for item in items {
+        item.wide();
         place += write_element(*item, index, &mut buffer[place..]);
         index += 1;
     }

@@ -1,4 +1,4 @@
-use Rattle.std.proofs.Common.{◌≡◌, ◌+◌, ◌*◌, ◌≤◌, length}
+use Rattle.std.proofs.Common.{◌≡◌, ◌+◌, ◌*◌, ◌≤◌, List, ℕ, length}
 use Rattle.std.specs.Prelude.{IsOk}
 use Rattle.nla_frame.specs.NlaItems.{nla_items}
 use Rattle.linkinfo_table.specs.Lists.{alike_pairs}
@@ -9,7 +9,7 @@ abbrev pub invariant-loop-next : goal.invariant-loop-next
 invariant-loop-next g l =
     let width = g.A.Fixed.WIDTH in
     let of = g.A.Fixed.value_of in
-    let headers = λ p. address_headers width (nla_items p) in
+    let headers = λ (p : List ℕ). address_headers width (nla_items p) in
     record {
       first : IsOk (addresses width of (nla_items l.x));
       second : IsOk (addresses width of (nla_items l.y));

@@ -11,12 +11,10 @@ invariant-loop-next g l =
     let width = g.A.Fixed.WIDTH in
     let of = g.A.Fixed.value_of in
     let bytes = g.A.Fixed.bytes_of in
-    let holds = g.A.Fixed.holds in
-    let fixed = g.met.A.Fixed.fixed in
     record {
       accepted : IsOk (addresses width of (nla_items l.rest));
-      so_far : Written (written_from width of bytes holds fixed 0 (nla_items l.payload))
-          (written_from width of bytes holds fixed l.index (nla_items l.rest)) l.place l.fn.buffer
+      so_far : Written (written_from width of bytes 0 (nla_items l.payload))
+          (written_from width of bytes l.index (nla_items l.rest)) l.place l.fn.buffer
           l.buffer;
       few : 8 * l.index ≤ l.place;
       room : 4 * l.count + length l.rest ≤ length l.payload;
