@@ -23,9 +23,11 @@ use Rattle.std.specs.List.{flat_map}
 use Rattle.std.proofs.lemmas.List.{
   append-nil,
   at_drop_more,
+  drop-take,
   drop_at,
   length-append,
   length-drop,
+  take-take,
   take_at,
 }
 use borrow.Rule.Slice.PartMut.{put_mid}
@@ -54,8 +56,14 @@ two_written a b old buffer chunk at n k first size wide room new =
       written = ap (λ (y : List ℕ). y ++ b) front;
     } in
     let size_of : length whole ≤ length buffer =
-    omega (arith, ap length first.written, length-append a (drop (length a) old),
-    length-append a b, length-drop (length a) old, room) in
+    omega (
+      arith,
+      ap length first.written,
+      length-append a (drop (length a) old),
+      length-append a b,
+      length-drop (length a) old,
+      room,
+    ) in
     let now =
     write_text whole b b [] at old buffer so_far (sym (append-nil b)) size_of n size k wide chunk
     new in
@@ -70,3 +78,10 @@ pub one_value : {X : Type 0} (bytes : X → List ℕ) (xs : List X) (i : ℕ) (x
 one_value bytes xs i x h e =
     at_drop_more (λ ys. flat_map bytes ys) xs i x h
     ∙ ap (λ y. bytes y ++ flat_map bytes (drop (i + 1) xs)) (sym e)
+
+-- the first bytes, and those after them
+pub front_of : (n m : ℕ) (p : List ℕ) → take n (take (n + m) p) ≡ take n p
+front_of n m p = take-take n (n + m) p (omega arith)
+
+pub rear_of : (n m : ℕ) (p : List ℕ) → drop n (take (n + m) p) ≡ take m (drop n p)
+rear_of n m p = drop-take n m p

@@ -72,6 +72,7 @@ use Rattle.linkinfo_table.specs.Payloads.{
   codec_with,
 }
 use Rattle.linkinfo_payloads.specs.Fixed.{IsFixed}
+use Rattle.linkinfo_payloads.specs.Layouts.{Layout, v4, v6}
 
 abbrev pub with_first : {X : Type 0} → X → Result (List X) PayloadError →
     Result (List X) PayloadError
@@ -117,6 +118,16 @@ good x = Ok x
 
 good_same : {X : Type 0} (x y : X) → good x ≡ good y → x ≡ y
 good_same x y h = cc
+
+-- a payload that is a list of addresses
+abbrev codec_by : {X : Type 0} → ℕ → (List ℕ → X) → (X → List ℕ) → (X → Type 0) → Codec
+codec_by width of bytes holds =
+    codec_with (λ p. addresses width of (nla_items p)) (λ xs. address_string bytes xs)
+    (λ xs. AllWell holds xs) (λ p q. alike_pairs same_payload (nla_items p) (nla_items q))
+    (λ p. address_headers width (nla_items p)) (λ p. address_memory width (nla_items p))
+
+abbrev pub address_codec : {X : Type 0} → Layout X → Codec
+address_codec layout = codec_by layout.width layout.of layout.bytes layout.Holds
 
 abbrev bad : {X : Type 0} → PayloadError → Result (List X) PayloadError
 bad e = Err e
@@ -244,12 +255,8 @@ module _ {X : Type 0} (width : ℕ) (of : List ℕ → X) (bytes : X → List �
 
   -- ---- a payload that is a list of addresses
 
-  abbrev pub address_codec : Codec
-  address_codec =
-      codec_with (λ p. addresses width of (nla_items p)) (λ (xs : List X). address_string bytes xs)
-      (λ xs. AllWell holds xs)
-      (λ p q. alike_pairs same_payload (nla_items p) (nla_items q))
-      (λ p. address_headers width (nla_items p)) (λ p. address_memory width (nla_items p))
+  abbrev codec : Codec
+  codec = codec_by width of bytes holds
 
   alike_element : (a b : Attribute) (x y : X) → IsAttribute a → IsAttribute b → element a ≡ Ok x →
       element b ≡ Ok y → (same_payload a b ≡ true) ↔ (x ≡ y)
@@ -330,7 +337,7 @@ module _ {X : Type 0} (width : ℕ) (of : List ℕ → X) (bytes : X → List �
   abbrev after : Unit {0} → Attribute → Unit {0}
   after t a = t
 
-  address_is_codec : IsCodec address_codec
+  address_is_codec : IsCodec codec
   address_is_codec = record {
     holds = λ p xs b e.
         family_read_well element plain holds read_holds
@@ -354,7 +361,7 @@ module _ {X : Type 0} (width : ℕ) (of : List ℕ → X) (bytes : X → List �
         (sym (inner_is_header memory_error (errors (nla_items p) (Inside memory_error) e)));
   }
 
-  pub address_payload : (shape : Shape) → IsAddresses shape → IsPayload shape [] address_codec
+  pub address_payload : (shape : Shape) → IsAddresses shape → IsPayload shape [] codec
   address_payload shape i = record {
     shaped = addresses_payload_shape shape i;
     codec = address_is_codec;
@@ -415,3 +422,32 @@ module _ {X : Type 0} (width : ℕ) (of : List ℕ → X) (bytes : X → List �
           length p ≡ length (bytes_for (λ (xs : List X). address_string bytes xs) r)
       go (Ok xs) e i = address_long p xs b e
       go (Err d) e i = absurd cc
+
+-- ---- the two versions
+
+four_some : 4 ≤ 4
+four_some = omega arith
+
+sixteen_some : 4 ≤ 16
+sixteen_some = omega arith
+
+four_short : 4 ≤ 65531
+four_short = omega arith
+
+sixteen_short : 16 ≤ 65531
+sixteen_short = omega arith
+
+abbrev pub v4_list_codec : Codec
+v4_list_codec = address_codec v4
+
+pub v4_list_payload : IsPayload V4List [] v4_list_codec
+v4_list_payload =
+    address_payload v4.width v4.of v4.bytes v4.Holds v4.fixed refl four_some four_short V4List tt
+
+abbrev pub v6_list_codec : Codec
+v6_list_codec = address_codec v6
+
+pub v6_list_payload : IsPayload V6List [] v6_list_codec
+v6_list_payload =
+    address_payload v6.width v6.of v6.bytes v6.Holds v6.fixed refl sixteen_some sixteen_short V6List
+    tt

@@ -26,6 +26,7 @@ use Rattle.std.specs.Prelude.{
   refl,
 }
 use Rattle.std.specs.List.{AllByRecursion, flat_map}
+use Rattle.std.specs.Str.{bytes_eq}
 use Rattle.std.proofs.Common.{arith, sym, ap, ◌∙◌}
 use Rattle.std.proofs.Math.Nat.{mul-div_cancel, mul-mod_left, zero-div}
 use Rattle.std.proofs.lemmas.Bool.{eq-eqb, eqb-true}
@@ -40,8 +41,13 @@ use Rattle.std.proofs.lemmas.List.{
 use Rattle.std.proofs.lemmas.Nat.{div-add-mod'}
 use Rattle.nla_frame.specs.Attribute.{IsBytes}
 use Rattle.nla_frame.proofs.ByteLists.{IsBytes-append, IsBytes-drop, IsBytes-nil, IsBytes-take}
-use Rattle.linkinfo_payloads.specs.Exact.{IsExactly}
+use Rattle.linkinfo_shapes.specs.declared.shape.Shape.{Shape}
+use Rattle.linkinfo_shapes.specs.declared.shape.Shape.TheVariants.{Le16s, Le32s}
+use Rattle.linkinfo_table.specs.Codecs.{Codec}
+use Rattle.linkinfo_table.specs.Payloads.{IsExact, IsPayload, codec_with}
+use Rattle.linkinfo_payloads.specs.Exact.{IsExactly, exact_means, exact_payload}
 use Rattle.linkinfo_payloads.specs.Fixed.{IsFixed}
+use Rattle.linkinfo_payloads.specs.Layouts.{Layout, le16, le32}
 
 -- so many values, one after another
 abbrev pub values_in : {X : Type 0} → ℕ → ℕ → (List ℕ → X) → List ℕ → List X
@@ -109,8 +115,12 @@ module _ {X : Type 0} (width : ℕ) (of : List ℕ → X) (bytes : X → List �
       length (flat_map bytes xs) ≡ length xs * width
   values_long [] h = omega arith
   values_long (x ∷ xs) h =
-      omega (arith, length-append (bytes x) (flat_map bytes xs), fixed.long x h.0,
-      values_long xs h.1)
+      omega (
+        arith,
+        length-append (bytes x) (flat_map bytes xs),
+        fixed.long x h.0,
+        values_long xs h.1,
+      )
 
   values_bytes : (xs : List X) → AllByRecursion holds xs → IsBytes (flat_map bytes xs)
   values_bytes [] h = IsBytes-nil
@@ -137,6 +147,40 @@ module _ {X : Type 0} (width : ℕ) (of : List ℕ → X) (bytes : X → List �
     byte_list = λ xs h. values_bytes xs h;
     certain = λ p h. ap (λ (b : Bool). b && not (length p == 0)) h;
   }
+
+pub two_positive : 0 < 2
+two_positive = omega arith
+
+pub four_positive : 0 < 4
+four_positive = omega arith
+
+-- a payload that is an array
+abbrev pub array_codec : {X : Type 0} → Layout X → Codec
+array_codec layout =
+    codec_with (exact_means (is_multiple layout.width) (array_of layout.width layout.of))
+    (λ xs. flat_map layout.bytes xs) (λ xs. AllByRecursion layout.Holds xs) bytes_eq (λ _. 0)
+    (array_memory layout.width)
+
+pub array_payload : {X : Type 0} (shape : Shape) → IsExact shape → (layout : Layout X) →
+    0 < layout.width → IsPayload shape [] (array_codec layout)
+array_payload shape exact layout positive =
+    exact_payload (is_multiple layout.width) (array_of layout.width layout.of)
+    (λ xs. flat_map layout.bytes xs) (λ xs. AllByRecursion layout.Holds xs)
+    (array_memory layout.width)
+    (array_exactly layout.width layout.of layout.bytes layout.Holds positive layout.fixed) shape
+    exact
+
+abbrev pub le16s_codec : Codec
+le16s_codec = array_codec le16
+
+pub le16s_payload : IsPayload Le16s [] le16s_codec
+le16s_payload = array_payload Le16s tt le16 two_positive
+
+abbrev pub le32s_codec : Codec
+le32s_codec = array_codec le32
+
+pub le32s_payload : IsPayload Le32s [] le32s_codec
+le32s_payload = array_payload Le32s tt le32 four_positive
 
 -- ---- one value after another
 
@@ -179,9 +223,3 @@ pub array_long : {X : Type 0} (width : ℕ) (bytes : X → List ℕ) →
 array_long width bytes long [] = omega arith
 array_long width bytes long (x ∷ xs) =
     omega (arith, length-append (bytes x) (flat_map bytes xs), long x, array_long width bytes long xs)
-
-pub two_positive : 0 < 2
-two_positive = omega arith
-
-pub four_positive : 0 < 4
-four_positive = omega arith

@@ -128,13 +128,12 @@ pair_bytes bytes bytes' x = bytes x.0 ++ bytes' x.1
 abbrev pub pair_holds : {A B : Type 0} → (A → Type 0) → (B → Type 0) → A × B → Type 0
 pair_holds holds holds' x = holds x.0 × holds' x.1
 
-infixr 12 ◌⨾◌
-pub ◌⨾◌ : {A B : Type 0} {width width' : ℕ} {of : List ℕ → A} {bytes : A → List ℕ}
+pub fixed_pair : {A B : Type 0} {width width' : ℕ} {of : List ℕ → A} {bytes : A → List ℕ}
     {holds : A → Type 0} {of' : List ℕ → B} {bytes' : B → List ℕ} {holds' : B → Type 0} →
     IsFixed width of bytes holds → IsFixed width' of' bytes' holds' →
     IsFixed (width + width') (pair_of width of of') (pair_bytes bytes bytes')
     (pair_holds holds holds')
-◌⨾◌ {width = width} {width' = width'} {of = of} {bytes = bytes} {of' = of'} {bytes' = bytes'}
+fixed_pair {width = width} {width' = width'} {of = of} {bytes = bytes} {of' = of'} {bytes' = bytes'}
     one other = record {
       held = λ p b long. (
         one.held (take width p) (IsBytes-take width p b) (front p long),
@@ -154,8 +153,12 @@ pub ◌⨾◌ : {A B : Type 0} {width width' : ℕ} {of : List ℕ → A} {bytes
           ap of' (drop_at (bytes x.0) (bytes' x.1) width long) ∙ other.again x.1 h.1 in
           λ i. (first i, second i);
       long = λ x h.
-          omega (arith, length-append (bytes x.0) (bytes' x.1), one.long x.0 h.0,
-          other.long x.1 h.1);
+          omega (
+            arith,
+            length-append (bytes x.0) (bytes' x.1),
+            one.long x.0 h.0,
+            other.long x.1 h.1,
+          );
       byte_list = λ x h.
           IsBytes-append (bytes x.0) (bytes' x.1) (one.byte_list x.0 h.0)
           (other.byte_list x.1 h.1);
@@ -166,19 +169,6 @@ pub ◌⨾◌ : {A B : Type 0} {width width' : ℕ} {of : List ℕ → A} {bytes
 
     rear : (p : List ℕ) → length p ≡ width + width' → length (drop width p) ≡ width'
     rear p long = omega (arith, long, length-drop width p)
-
-pub fixed_none : IsFixed 0 (λ (p : List ℕ). (tt {0})) (λ _. []) (λ _. Unit {0})
-fixed_none = record {
-  held = λ p bytes long. tt;
-  back = λ p bytes long. sym (empty p long);
-  again = λ x h. refl;
-  long = λ x h. refl;
-  byte_list = λ x h i. omega arith;
-}
-  where
-    empty : (p : List ℕ) → length p ≡ 0 → p ≡ []
-    empty [] long = refl
-    empty (b ∷ p) long = absurd (omega (arith, long))
 
 -- ---- a big-endian number
 

@@ -8,6 +8,7 @@ use Rattle.linkinfo_table.specs.Codecs.{Codec}
 use Rattle.linkinfo_table.specs.Payloads.{IsExact, IsPayload, codec_with}
 use Rattle.linkinfo_payloads.specs.Exact.{IsExactly, exact_means, exact_payload}
 use Rattle.linkinfo_payloads.specs.Fixed.{IsFixed}
+use Rattle.linkinfo_payloads.specs.Layouts.{Layout}
 
 pub record_exactly : {R F : Type 0} (make : F → R) (view : R → F) (width len : ℕ)
     (of : List ℕ → F) (bytes : F → List ℕ) (holds : F → Type 0) → width ≡ len →
@@ -29,18 +30,16 @@ record_exactly make view width len of bytes holds long whole each fixed = record
     wide p h = eqb-true (length p) len h ∙ sym long
 
 -- a payload that is a record
-abbrev pub record_codec : {R F : Type 0} → ℕ → (F → R) → (R → F) → (List ℕ → F) → (F → List ℕ) →
-    (F → Type 0) → Codec
-record_codec len make view of bytes holds =
-    codec_with (exact_means (λ n. n == len) (λ p. make (of p))) (λ x. bytes (view x))
-    (λ x. holds (view x)) bytes_eq (λ _. 0) (λ _. false)
+abbrev pub record_codec : {R F : Type 0} → Layout F → (F → R) → (R → F) → Codec
+record_codec layout make view =
+    codec_with (exact_means (λ n. n == layout.width) (λ p. make (layout.of p)))
+    (λ x. layout.bytes (view x)) (λ x. layout.Holds (view x)) bytes_eq (λ _. 0) (λ _. false)
 
-pub record_payload : {R F : Type 0} (shape : Shape) → IsExact shape → (make : F → R) (view : R → F)
-    (width len : ℕ) (of : List ℕ → F) (bytes : F → List ℕ) (holds : F → Type 0) → width ≡ len →
-    ((x : R) → make (view x) ≡ x) → ((f : F) → view (make f) ≡ f) →
-    IsFixed width of bytes holds →
-    IsPayload shape [] (record_codec len make view of bytes holds)
-record_payload shape exact make view width len of bytes holds long whole each fixed =
-    exact_payload (λ n. n == len) (λ p. make (of p)) (λ x. bytes (view x)) (λ x. holds (view x))
-    (λ _. false)
-    (record_exactly make view width len of bytes holds long whole each fixed) shape exact
+pub record_payload : {R F : Type 0} (shape : Shape) → IsExact shape → (layout : Layout F)
+    (make : F → R) (view : R → F) → ((x : R) → make (view x) ≡ x) →
+    ((f : F) → view (make f) ≡ f) → IsPayload shape [] (record_codec layout make view)
+record_payload shape exact layout make view whole each =
+    exact_payload (λ n. n == layout.width) (λ p. make (layout.of p))
+    (λ x. layout.bytes (view x)) (λ x. layout.Holds (view x)) (λ _. false)
+    (record_exactly make view layout.width layout.width layout.of layout.bytes layout.Holds refl
+    whole each layout.fixed) shape exact

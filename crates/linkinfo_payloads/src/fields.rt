@@ -1,11 +1,10 @@
-//! The fields of a record, one after another, as a list of types.
+//! The fields of a record, one after another, as pairs.
 
-ghost use Rattle.std.specs.Prelude.{◌≡◌, ◌+◌, ◌≤◌, ℕ, List, [], length};
+ghost use Rattle.std.specs.Prelude.{◌≡◌, ◌+◌, ◌≤◌, ℕ, List, drop, length, take};
 ghost use Rattle.nla_frame.specs.Writing.{Writes};
 ghost use Rattle.linkinfo_payloads.specs.Fixed.{
-  ◌⨾◌,
   IsFixed,
-  fixed_none,
+  fixed_pair,
   pair_bytes,
   pair_holds,
   pair_of,
@@ -13,8 +12,8 @@ ghost use Rattle.linkinfo_payloads.specs.Fixed.{
 
 use crate::fixed::Fixed;
 
-/// The fields of a record in the order of their bytes: `()` for none, else a pair of the first one
-/// and the others.
+/// The fields of a record in the order of their bytes: a value, or a pair of fields and the fields
+/// after them.
 pub trait Fields: Copy {
     /// The number of bytes of all fields.
     ghost width: { ℕ };
@@ -28,70 +27,78 @@ pub trait Fields: Copy {
     /// Whether each field is in the range of its type.
     ghost holds: { Self → Type 0 };
 
-    /// Reads the fields. Requires exactly as many bytes as they have.
-    fn read(bytes: &[u8]) -> Self
-        requires { length bytes.now ≡ width }
-        ensures { result ≡ value_of bytes.now };
+    /// Reads the fields at the front, and returns them with the bytes after them. Requires at least
+    /// as many bytes as they have.
+    fn read_front(bytes: &[u8]) -> (Self, &[u8])
+        requires { width ≤ length bytes.now }
+        ensures value { result.0 ≡ value_of (take width bytes.now) }
+        ensures rest { result.1.now ≡ drop width bytes.now };
 
     /// Writes the fields at the front of the buffer, and returns the number of their bytes. The
     /// bytes after them stay unchanged. Requires that the buffer has at least as many bytes.
-    fn write(self, buffer: &mut [u8]) -> usize
+    fn write_front(self, buffer: &mut [u8]) -> usize
         requires { width ≤ length buffer.old }
         ensures written { Writes (bytes_of self) buffer.old buffer.new result }
         ensures width { result ≡ Self.width };
 
     /// How many bytes the fields have. This is a fact for proofs, a function without code.
-    fn wide(self)
+    fn are_wide(self)
         ensures { length (bytes_of self) ≡ width };
 
     ghost fixed: { IsFixed width value_of bytes_of holds };
 }
 
-impl Fields for () {
-    ghost width = { 0 };
+impl<A: Fixed> Fields for A {
+    ghost width = { A.WIDTH };
 
-    ghost value_of = { λ _. tt };
+    ghost value_of = { A.Fixed.value_of };
 
-    ghost bytes_of = { λ _. [] };
+    ghost bytes_of = { A.Fixed.bytes_of };
 
-    ghost holds = { λ _. Unit {0} };
+    ghost holds = { A.Fixed.holds };
 
-    ghost fixed = { fixed_none };
+    ghost fixed = { A.Fixed.fixed };
 
-    fn read(_bytes: &[u8]) {}
-
-    fn write(self, _buffer: &mut [u8]) -> usize {
-        0
+    fn read_front(bytes: &[u8]) -> (A, &[u8]) {
+        let (front, rest) = bytes.split_at(A::WIDTH);
+        (A::read(front), rest)
     }
 
-    fn wide(self) {}
+    fn write_front(self, buffer: &mut [u8]) -> usize {
+        self.write(buffer)
+    }
+
+    fn are_wide(self) {
+        self.wide();
+    }
 }
 
-impl<A: Fixed, R: Fields> Fields for (A, R) {
-    ghost width = { A.WIDTH + R.width };
+impl<A: Fields, B: Fields> Fields for (A, B) {
+    ghost width = { A.width + B.width };
 
-    ghost value_of = { pair_of A.WIDTH A.value_of R.value_of };
+    ghost value_of = { pair_of A.width A.value_of B.value_of };
 
-    ghost bytes_of = { pair_bytes A.bytes_of R.bytes_of };
+    ghost bytes_of = { pair_bytes A.bytes_of B.bytes_of };
 
-    ghost holds = { pair_holds A.holds R.holds };
+    ghost holds = { pair_holds A.holds B.holds };
 
-    ghost fixed = { A.fixed ⨾ R.fixed };
+    ghost fixed = { fixed_pair A.fixed B.fixed };
 
-    fn read(bytes: &[u8]) -> (A, R) {
-        let (first, rest) = bytes.split_at(A::WIDTH);
-        (A::read(first), R::read(rest))
+    fn read_front(bytes: &[u8]) -> ((A, B), &[u8]) {
+        let (first, rest) = A::read_front(bytes);
+        let (second, rest) = B::read_front(rest);
+        ((first, second), rest)
     }
 
-    fn write(self, buffer: &mut [u8]) -> usize {
-        let (first, rest) = self;
-        let width = first.write(buffer);
-        width + rest.write(&mut buffer[width..])
+    fn write_front(self, buffer: &mut [u8]) -> usize {
+        let (first, second) = self;
+        let width = first.write_front(buffer);
+        width + second.write_front(&mut buffer[width..])
     }
 
-    fn wide(self) {
-        let (first, rest) = self;
-        first.wide();
-        rest.wide();
+    fn are_wide(self) {
+        let (first, second) = self;
+        first.are_wide();
+        second.are_wide();
     }
 }

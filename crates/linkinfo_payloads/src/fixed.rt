@@ -10,6 +10,7 @@ ghost use Rattle.linkinfo_shapes.specs.declared.shape.Shape.TheVariants as shape
 ghost use Rattle.linkinfo_payloads.specs.Fixed.{
   IsArray,
   IsFixed,
+  big_endian,
   fixed_array,
   fixed_big_endian,
   fixed_shape,
@@ -61,6 +62,13 @@ pub trait Fixed: Copy {
 pub struct BigEndian {
     /// The number.
     pub number: u16,
+}
+
+/// Makes the big-endian number.
+pub(crate) fn big_endian(number: u16) -> BigEndian
+    ensures { result ≡ big_endian number }
+{
+    BigEndian { number }
 }
 
 /// A little-endian number of two bytes.

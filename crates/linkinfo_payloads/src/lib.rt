@@ -3,17 +3,19 @@
 #![tactic(auto)]
 
 mod addresses;
-mod bridge_id;
 mod exact;
 mod fields;
 mod fixed;
 mod numbers;
 mod record;
+mod records;
 
 pub use addresses::{Address, Addresses};
-pub use bridge_id::BridgeId;
 pub use exact::ExactPayload;
 pub use fields::Fields;
 pub use fixed::{BigEndian, Fixed};
 pub use numbers::{Number, Numbers};
 pub use record::Record;
+// Begin: written by tables/generate from tables/records.
+pub use records::{BridgeId, CanBerrCounter, CanBitTiming, CanBitTimingConst};
+// End: written by tables/generate.

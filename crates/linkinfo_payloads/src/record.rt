@@ -1,10 +1,10 @@
 //! Records: fields at fixed places.
 
-ghost use Rattle.std.specs.Prelude.{◌≡◌, ◌==◌, ◌≤◌, ℕ, [], false};
+ghost use Rattle.std.specs.Prelude.{◌≡◌, ◌==◌, ◌≤◌, ℕ, false};
 ghost use Rattle.linkinfo_shapes.specs.declared.shape.Shape.{Shape};
-ghost use Rattle.linkinfo_table.specs.Payloads.{IsExact, IsPayload};
+ghost use Rattle.linkinfo_table.specs.Payloads.{IsExact};
 ghost use Rattle.linkinfo_payloads.specs.Fixed.{IsFixed};
-ghost use Rattle.linkinfo_payloads.specs.Record.{record_codec, record_exactly, record_payload};
+ghost use Rattle.linkinfo_payloads.specs.Record.{record_exactly};
 
 use crate::exact::ExactPayload;
 use crate::fields::Fields;
@@ -51,11 +51,6 @@ pub trait Record: Sized + Eq + ExactEq + Drop {
 
     ghost fixed: { IsFixed Self.Fields.width Self.Fields.value_of Self.Fields.bytes_of
         Self.Fields.holds };
-
-    ghost lawful: { IsPayload shape [] (record_codec LEN record_of fields_of Self.Fields.value_of
-        Self.Fields.bytes_of Self.Fields.holds) } = { record_payload shape of_shape record_of
-        fields_of Self.Fields.width LEN Self.Fields.value_of Self.Fields.bytes_of
-        Self.Fields.holds long whole each fixed };
 }
 
 impl<R: Record> ExactPayload for R {
@@ -81,17 +76,18 @@ impl<R: Record> ExactPayload for R {
     }
 
     fn from_payload(_alloc: Global, payload: &[u8]) -> Result<R, AllocError> {
-        Ok(R::from_fields(<R::Fields as Fields>::read(payload)))
+        let (fields, _) = <R::Fields as Fields>::read_front(payload);
+        Ok(R::from_fields(fields))
     }
 
     fn fit_payload(&self) -> Option<usize> {
-        self.to_fields().wide();
+        self.to_fields().are_wide();
         Some(R::LEN)
     }
 
     fn to_payload(&self, buffer: &mut [u8]) -> usize {
         let fields = self.to_fields();
-        fields.wide();
-        fields.write(buffer)
+        fields.are_wide();
+        fields.write_front(buffer)
     }
 }

@@ -18,7 +18,7 @@ write_element-place-requires g c =
       arith,
       ap length on,
       length-list_string-cons (record { kind = k; value = bytes x })
-      (numbered bytes (k + 1) (drop (i + 1) xs)),
+          (numbered bytes (k + 1) (drop (i + 1) xs)),
       c.wide.ensures,
       c.loop-item.invariant.so_far.place,
       c.requires.room,
