@@ -35,16 +35,17 @@ def crate_parts(crate, families):
         given[mark] = ", ".join(sorted(f"{it.snake}_{mark}" for it in families))
     lists = {it.name: [
         {**vars(it), **row, "kind": str(int(row["number"]) + 0x8000 * row["flagged"])}
-        for row in of_rows(it, True) if row["inner"]] for it in families if it.layered}
+        for row in of_rows(it, True) if row["payload"]] for it in families if it.layered}
     nesting = [it for it in families if lists.get(it.name)]
     return parts("crate", {"crate": [(given, [given])], **{
         name: [({"crate": crate}, rows)] if lists else [] for name, rows in {
             "typed": [{**vars(it), "inside": "".join(
-                f"family.{row['inner']} ∷ " for row in lists[it.name])} for it in families
-                      if it.layered],
+                f"family.{row['inner']} ∷ " for row in lists[it.name] if row["inner"])}
+                      for it in families if it.layered],
             "inner": [vars(it) for it in families if it.inner],
             "nesting": [{**vars(it), "values": lists[it.name]} for it in nesting],
-            "lists": [row for it in nesting for row in lists[it.name]]}.items()}})
+            "lists": [row for it in nesting for row in lists[it.name] if row["inner"]],
+            "payloads": [row for it in nesting for row in lists[it.name] if row["own"]]}.items()}})
 
 
 def outputs(tables):

@@ -1,4 +1,6 @@
 """What templates/family has in its marks: of a flat family, and of each of its rows."""
+import re
+
 from .families import NEST
 from .text import pairs, snake, spelled
 
@@ -6,7 +8,9 @@ SEARCHED = 10   # up to so many variants, `ExactEq` is found by a search
 LONG = 8        # from so many rows on, what a label keeps is a line for each row
 KNOWN = {"number": "Decides-eqb", "truth": "booleans_Decides",
          "sets": "(λ a b. Prim.search rules)",
-         "pair": "(two_fields Decides-eqb Decides-eqb)"}
+         "pair": "(two_fields Decides-eqb Decides-eqb)",
+         "numbers": "(pointwise_decides Decides-eqb)"}
+ADDRESSES = {"ipv4_list": "Ipv4Addr", "ipv6_list": "Ipv6Addr"}      # of lists, by their entries
 HOW = {"number": " as ‹›", "reference": " as &‹›", "flags": " as flags ‹›",
        "pair": " by flags_of, pair_of", "sets": " by flags_of, pair_of",
        "scrub": " by scrub_of, is_by_default"}
@@ -61,6 +65,10 @@ def exact(row, at, lets, is_listed):
     if row.inner:
         field, decides, entry = row.inner, "(pointwise_decides {}_exact)", snake(row.inner)
         where = f"{row.inner_crate}.specs.contracts.{row.inner_module}"
+    elif entry in ADDRESSES:
+        field, decides = ADDRESSES[entry], "(pointwise_decides {}_exact)"
+    elif row.payload:
+        where = "linkinfo_payloads.specs.contracts.records"
     is_new = is_listed and bool(field) and entry not in lets
     found = {"entry": entry, "decides": KNOWN.get(entry, decides.format(entry)),
              "law": is_new and entry not in KNOWN and f"{where}.{field}ExactEq.TheImpl.Laws",
@@ -75,13 +83,20 @@ def of_row(row):
     """The marks of a row that need nothing else."""
     field, either = row.field, spelled(row.variant)
     bits, bare = row.value.bits if row.value else 0, row.shape == "Mark"
-    simple = not (row.value or row.two or bare or row.inner)
+    simple = not (row.value or row.two or bare or row.payload)
     kind = f"written_kind true {row.number}" if row.flagged else str(row.number)
+    it, own = snake(row.inner), row.layout.codec
     return {
         **vars(row), "number": str(row.number), "held": f"({field})" if field else "",
-        "table": not row.inner, "in_code": row.shape + f"(Family::{row.inner})" * bool(row.inner),
+        "table": not row.payload, "in_code": row.shape + f"(Family::{row.inner})" * bool(row.inner),
         "in_specs": f"{row.shape} family.{row.inner}" if row.inner else row.shape,
-        "spelled": "custom" if row.shape in ("Peer", "SelfList", NEST) else spelled(row.shape),
+        "term": f"({row.shape} family.{row.inner})" if row.inner else row.shape,
+        "own": own, "codec": f"(list_of {it}_members)" if row.inner else f"{own}_codec",
+        "lawful": f"(list_of_is_codec {it}_members {it}_lawful)" if row.inner else
+        f"{own}_payload.codec",
+        "headers": f"headers_in {it}_members" if row.inner else f"{own}_codec.headers",
+        "spelled": "custom" if row.payload or row.shape in ("Peer", "SelfList") else
+        spelled(row.shape),
         "how": f" or {row.variants[0]}" if row.two else HOW.get(row.made, "").replace("‹›", field),
         "doc": row.doc(len(row.variants) - 1), "first_doc": row.doc(0), "empty": row.variants[0],
         "either": either, "short": either.split("_")[0],
@@ -93,7 +108,8 @@ def of_row(row):
         **{f"inner_{it}": row.inner and getattr(row, f"inner_{it}") for it in
            ("spec", "module", "crate")},
         "made_from": row.made == "flags" or row.numbered, "variable": row.layout.variable,
-        "condition": row.layout.condition, "said": simple and row.layout.condition,
+        "condition": row.layout.condition,
+        "said": (simple or bool(own)) and row.layout.condition,
         "arm": not row.two, "plain": not row.under, "names": ", ".join(row.variants)}
 
 
@@ -131,6 +147,9 @@ def reads(family, shapes):
     if NEST in shapes:
         said += " A list is rejected with the first error in it: that of an attribute inside, or "
         said += "`(Frame, 0, Header)`."
+    if shapes & {"V4List", "V6List"}:
+        said += " So is a list of addresses, in which an attribute of another length has the error "
+        said += f"`({family.name}, type, Length)` with the type of the list."
     return said + "".join(
         f" A name that is not UTF-8 is rejected as `({family.name}, {row.number}, Utf8)`."
         for row in family.typed if row.shape == "Name")
@@ -161,8 +180,8 @@ def chain(family, inner):
     for row in reversed(inner):
         name = f"{its}_from_{row['either']}"
         text += (f"abbrev pub {name} : ℕ → FamilyRow {family.type}\n{name} n =\n    with_row "
-                 f"{row['number']} ({row['in_specs']}) {row['flag']} (list_of {row['inner_it']}_"
-                 f"members)\n    (λ xs. {row['variant']} xs) {rest} n\n\n")
+                 f"{row['number']} {row['term']} {row['flag']} {row['codec']}\n"
+                 f"    (λ x. {row['variant']} x) {rest} n\n\n")
         rest = name
     return text.rstrip("\n") + "\n" * bool(text)
 
@@ -179,12 +198,18 @@ def custom(family, inner):
                 "rest_shapes": "".join(
                     f"({it['number']}, {it['in_specs']}) ∷ " for it in later)
                 + f"without_labels {its}_plain"}
-    inside = dict.fromkeys((row["inner_it"], row["inner_spec"]) for row in inner)
+    lists = [row for row in inner if row["inner"]]
+    inside = dict.fromkeys((row["inner_it"], row["inner_spec"]) for row in lists)
+    owns = sorted({row["own"] for row in inner} - {""})
+    types = sorted({re.match(r"\w+", row["field"])[0] for row in inner if row["own"]})
     return {
         "nested": bool(inner), "flat": not inner, "is_inner": family.inner,
         "of_family": bool(inner) or family.inner, "inner_types": "\n".join(
             f"use crate::{module}::{name};" for module, name in dict.fromkeys(
-                (row["inner_module"], row["inner"]) for row in inner)),
+                (row["inner_module"], row["inner"]) for row in lists)),
+        "has_lists": bool(lists), "owns": bool(owns), "own_types": ", ".join(types),
+        "own_codecs": ", ".join(f"{own}_{end}" for own in owns for end in ("codec", "payload")),
+        "pointwise": any(row["inner"] or "<" in row["field"] for row in inner),
         "cloned": ", Clone" * bool(inner), "closing": ")" * len(inner),
         "plain_rows": f"{its}_plain" if inner else f"{its}_rows",
         "all_rows": f"{its}_rows" if inner else f"table_row {its}_rows",
@@ -205,11 +230,11 @@ def custom(family, inner):
 def of_family(family):
     """The marks of a family, with those of its rows as `values`."""
     variants = [variant for row in family.typed for variant in row.variants]
-    is_listed = len(variants) + 1 > SEARCHED or any(row.inner for row in family.typed)
+    is_listed = len(variants) + 1 > SEARCHED or any(row.payload for row in family.typed)
     rows, shapes = of_rows(family, is_listed), dict.fromkeys(row.shape for row in family.typed)
     pair = next((value.name for value in family.values if value.made == "pair"), "")
     sets = next((row.value.name for row in family.typed if row.made == "sets"), "")
-    inner = [row for row in rows if row["inner"]]
+    inner = [row for row in rows if row["payload"]]
     either, entries = [row["either"] for row in rows if row["two"]], {row["entry"] for row in rows}
     plain = "plain" if inner else "rows"
     used = {value.name for value in family.values} | {pair.removeprefix("Info")}

@@ -41,7 +41,7 @@ def view_marks(family):
                "head": fill(f"**{title}**: {said}".split()),
                "others": family.links if family.parts and constant != "TUNNEL" else "",
                "values": [{**vars(row), "number": str(row.number), "format": shown(row),
-                           "shape": "Raw" if row.inner else row.shape} for row in rows]}
+                           "shape": "Raw" if row.payload else row.shape} for row in rows]}
 
 
 def page_marks(family):
