@@ -10,6 +10,7 @@ KNOWN = {"number": "Decides-eqb", "truth": "booleans_Decides",
          "sets": "(λ a b. Prim.search rules)",
          "pair": "(two_fields Decides-eqb Decides-eqb)",
          "numbers": "(pointwise_decides Decides-eqb)"}
+CONTRACTS = {"[u8; 6]": "ArrayU86"}     # how names of contracts have a type
 ADDRESSES = {"ipv4_list": "Ipv4Addr", "ipv6_list": "Ipv6Addr"}      # of lists, by their entries
 HOW = {"number": " as ‹›", "reference": " as &‹›", "flags": " as flags ‹›",
        "pair": " by flags_of, pair_of", "sets": " by flags_of, pair_of",
@@ -69,6 +70,7 @@ def exact(row, at, lets, is_listed):
         field, decides = ADDRESSES[entry], "(pointwise_decides {}_exact)"
     elif row.payload:
         where = "linkinfo_payloads.specs.contracts.records"
+    field = CONTRACTS.get(field, field)
     is_new = is_listed and bool(field) and entry not in lets
     found = {"entry": entry, "decides": KNOWN.get(entry, decides.format(entry)),
              "law": is_new and entry not in KNOWN and f"{where}.{field}ExactEq.TheImpl.Laws",
@@ -110,7 +112,7 @@ def of_row(row):
         "made_from": row.made == "flags" or row.numbered, "variable": row.layout.variable,
         "condition": row.layout.condition,
         "said": (simple or bool(own)) and row.layout.condition,
-        "arm": not row.two, "plain": not row.under, "names": ", ".join(row.variants)}
+        "arm": not (row.two or row.payload), "plain": not row.under, "names": ", ".join(row.variants)}
 
 
 def of_rows(family, is_listed):
@@ -213,6 +215,7 @@ def custom(family, inner):
         "cloned": ", Clone" * bool(inner), "closing": ")" * len(inner),
         "plain_rows": f"{its}_plain" if inner else f"{its}_rows",
         "all_rows": f"{its}_rows" if inner else f"table_row {its}_rows",
+        "suits": f"({its}_suits c.args.decoded c.requires)" if inner else "c.requires",
         "own_variants": "".join(f"{row['variant']}, " for row in inner),
         "held": ", ".join(f"is_{row['either']}" for row in inner),
         "custom": chained([f"({row['variant']}Row<()>, ..)" for row in inner], "()"),

@@ -11,6 +11,7 @@ use Rattle.linkinfo_table.specs.FamilyRows.{
   IsFlat,
   PlainRow,
   RowOwes,
+  SuitsDecoded,
   lookup_in,
   lookup_of,
   row,
@@ -22,6 +23,8 @@ use Rattle.linkinfo_table.specs.FamilyRows.{
 }
 use Rattle.linkinfo_table.specs.Members.{list_of, list_of_is_codec}
 use Rattle.linkinfo_table.specs.TypedRows.{with_flat, with_lookup, with_owes, with_row}
+use Rattle.linkinfo_table.specs.declared.decoded.Decoded.{Decoded}
+use Rattle.linkinfo_typed.specs.PayloadRows.{with_suits}
 use Rattle.linkinfo_shapes.specs.Typed.{typed_shape_of}
 use Rattle.linkinfo_shapes.specs.declared.shape.Shape.TheVariants.{Le16, FlagPair, Nested, Be16}
 use Rattle.linkinfo_numbers.specs.Table.{key-value_of}
@@ -117,6 +120,16 @@ vlan_lookup n =
     with_lookup 4 (Nested family.VlanQosMapping) false (list_of vlan_qos_mapping_members)
     (λ x. IngressQos x) (table_row vlan_plain) (without_labels vlan_plain) n (
     table_lookup vlan_plain n))
+
+-- a decoded datum belongs to a row with a shape of the table
+pub vlan_suits : (read : Decoded) → SuitsDecoded vlan_rows read →
+    SuitsDecoded (λ n. table_row vlan_plain n) read
+vlan_suits read h =
+    with_suits 3 (Nested family.VlanQosMapping) false (list_of vlan_qos_mapping_members)
+    (λ x. EgressQos x) vlan_from_ingress_qos read h (λ e.
+    with_suits 4 (Nested family.VlanQosMapping) false (list_of vlan_qos_mapping_members)
+    (λ x. IngressQos x) (table_row vlan_plain) read e (λ e.
+    e))
 
 -- the family writes such payloads itself
 abbrev pub vlan_is_custom : InfoVlan → Bool

@@ -2,17 +2,26 @@
 
 ghost use Rattle.std.specs.Prelude.{◌≡◌, ◌↔◌, ℕ, [], ◌∷◌};
 // Begin: written by tables/generate from tables/families (conditions).
-ghost use Rattle.linkinfo_typed.specs.Conditions.{vlan_conditions, vlan_qos_mapping_conditions};
+ghost use Rattle.linkinfo_typed.specs.Conditions.{
+  bond_conditions,
+  can_conditions,
+  vlan_conditions,
+  vlan_qos_mapping_conditions,
+};
 // End: written by tables/generate.
 ghost use Rattle.linkinfo_shapes.specs.Typed.{typed_shape_of};
 ghost use Rattle.linkinfo_table.specs.FamilyRows.{lookup_in};
 ghost use Rattle.linkinfo_typed.specs.NestedLists.{HoldsListOf};
 // Begin: written by tables/generate from tables/families (variants).
+ghost use Rattle.linkinfo_typed.specs.declared.bond.InfoBond.TheVariants as bond;
+ghost use Rattle.linkinfo_typed.specs.declared.can.InfoCan.TheVariants as can;
 ghost use Rattle.linkinfo_typed.specs.declared.vlan.InfoVlan.TheVariants as vlan;
 // End: written by tables/generate.
 ghost use Rattle.nla_frame.specs.declared.error.Family.TheVariants as family;
 
 // Begin: written by tables/generate from tables/families (types).
+use crate::bond::InfoBond;
+use crate::can::InfoCan;
 use crate::qos::VlanQosMapping;
 use crate::vlan::InfoVlan;
 // End: written by tables/generate.
@@ -23,6 +32,8 @@ use linkinfo_table::{LinkFamily, ListedFamily};
 /// in lists are of the families inside.
 pub fn named()
     // Begin: written by tables/generate from tables/families (named).
+    ensures bond { ⟦<InfoBond as LinkFamily>⟧.FAMILY ≡ family.Bond }
+    ensures can { ⟦<InfoCan as LinkFamily>⟧.FAMILY ≡ family.Can }
     ensures vlan_qos_mapping { ⟦<VlanQosMapping as LinkFamily>⟧.FAMILY ≡ family.VlanQosMapping }
     ensures vlan { ⟦<InfoVlan as LinkFamily>⟧.FAMILY ≡ family.Vlan }
 // End: written by tables/generate.
@@ -33,6 +44,10 @@ pub fn named()
 #[tactic(auto, using(linkinfo_table::specs::FamilyRowLaws::table_lookup))]
 pub fn tabled()
     // Begin: written by tables/generate from tables/families (tabled).
+    ensures bond { (n : ℕ) →
+        ⟦<InfoBond as LinkFamily>⟧.lookup tt n ≡ lookup_in (typed_shape_of family.Bond n) }
+    ensures can { (n : ℕ) →
+        ⟦<InfoCan as LinkFamily>⟧.lookup tt n ≡ lookup_in (typed_shape_of family.Can n) }
     ensures vlan_qos_mapping { (n : ℕ) →
         ⟦<VlanQosMapping as LinkFamily>⟧.lookup tt n
         ≡ lookup_in (typed_shape_of family.VlanQosMapping n) }
@@ -46,6 +61,8 @@ pub fn tabled()
 /// the range of its type, and each attribute of a list is well formed.
 pub fn well_formed()
     // Begin: written by tables/generate from tables/families (well_formed).
+    ensures bond { (x : InfoBond) → ⟦<InfoBond as LinkFamily>⟧.well tt x ↔ bond_conditions x }
+    ensures can { (x : InfoCan) → ⟦<InfoCan as LinkFamily>⟧.well tt x ↔ can_conditions x }
     ensures vlan_qos_mapping { (x : VlanQosMapping) →
         ⟦<VlanQosMapping as LinkFamily>⟧.well tt x ↔ vlan_qos_mapping_conditions x }
     ensures vlan { (x : InfoVlan) → ⟦<InfoVlan as LinkFamily>⟧.well tt x ↔ vlan_conditions x }
@@ -56,6 +73,8 @@ pub fn well_formed()
 /// attributes may name these.
 pub fn families_inside()
     // Begin: written by tables/generate from tables/families (inside).
+    ensures bond { ⟦<InfoBond as LinkFamily>⟧.inside ≡ [] }
+    ensures can { ⟦<InfoCan as LinkFamily>⟧.inside ≡ [] }
     ensures vlan_qos_mapping { ⟦<VlanQosMapping as LinkFamily>⟧.inside ≡ [] }
     ensures vlan { ⟦<InfoVlan as LinkFamily>⟧.inside
         ≡ family.VlanQosMapping ∷ family.VlanQosMapping ∷ [] }

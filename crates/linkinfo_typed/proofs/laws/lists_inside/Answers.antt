@@ -8,12 +8,36 @@ use Rattle.linkinfo_typed.proofs.laws.lists_inside.Goals as goal
 use Rattle.linkinfo_typed.specs.Qos.{vlan_qos_mapping_members}
 -- End: written by tables/generate.
 -- Begin: written by tables/generate from tables/families (rows).
+use Rattle.linkinfo_typed.specs.Bond.{bond_attribute, bond_rows}
+use Rattle.linkinfo_typed.specs.declared.bond.InfoBond.TheVariants as bond
+use Rattle.linkinfo_typed.specs.Can.{can_attribute, can_rows}
+use Rattle.linkinfo_typed.specs.declared.can.InfoCan.TheVariants as can
 use Rattle.linkinfo_typed.specs.Vlan.{vlan_attribute, vlan_rows}
 use Rattle.linkinfo_typed.specs.declared.vlan.InfoVlan.TheVariants as vlan
 
 -- End: written by tables/generate.
 
 -- Begin: written by tables/generate from tables/families (headers).
+abbrev bond_lists : List (ℕ × (List ℕ → ℕ))
+bond_lists =
+    (8, v4_list_codec.headers) ∷
+    (31, v6_list_codec.headers) ∷
+    []
+
+abbrev can_lists : List (ℕ × (List ℕ → ℕ))
+can_lists =
+    (1, can_bit_timing_codec.headers) ∷
+    (2, can_bit_timing_const_codec.headers) ∷
+    (8, can_berr_counter_codec.headers) ∷
+    (9, can_bit_timing_codec.headers) ∷
+    (10, can_bit_timing_const_codec.headers) ∷
+    (12, le16s_codec.headers) ∷
+    (13, le32s_codec.headers) ∷
+    (14, le32s_codec.headers) ∷
+    (18, can_bit_timing_codec.headers) ∷
+    (20, le32s_codec.headers) ∷
+    []
+
 abbrev vlan_lists : List (ℕ × (List ℕ → ℕ))
 vlan_lists =
     (3, headers_in vlan_qos_mapping_members) ∷
