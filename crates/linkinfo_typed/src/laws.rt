@@ -9,9 +9,21 @@ ghost use Rattle.linkinfo_typed.specs.Conditions.{
   vlan_qos_mapping_conditions,
 };
 // End: written by tables/generate.
+// Begin: written by tables/generate from tables/families (codecs).
+ghost use Rattle.linkinfo_payloads.specs.Payloads.{
+  can_berr_counter_codec,
+  can_bit_timing_codec,
+  can_bit_timing_const_codec,
+  le16s_codec,
+  le32s_codec,
+  v4_list_codec,
+  v6_list_codec,
+};
+// End: written by tables/generate.
 ghost use Rattle.linkinfo_shapes.specs.Typed.{typed_shape_of};
 ghost use Rattle.linkinfo_table.specs.FamilyRows.{lookup_in};
 ghost use Rattle.linkinfo_typed.specs.NestedLists.{HoldsListOf};
+ghost use Rattle.linkinfo_typed.specs.PayloadRows.{HoldsPayload};
 // Begin: written by tables/generate from tables/families (variants).
 ghost use Rattle.linkinfo_typed.specs.declared.bond.InfoBond.TheVariants as bond;
 ghost use Rattle.linkinfo_typed.specs.declared.can.InfoCan.TheVariants as can;
@@ -41,7 +53,6 @@ pub fn named()
 
 /// Each family reads a type without flag bits by its row of the table of the typed layer
 /// (`linkinfo_shapes::typed_shape`), and keeps a type without a row.
-#[tactic(auto, using(linkinfo_table::specs::FamilyRowLaws::table_lookup))]
 pub fn tabled()
     // Begin: written by tables/generate from tables/families (tabled).
     ensures bond { (n : ℕ) →
@@ -90,5 +101,37 @@ pub fn lists_inside()
         (⟦<VlanQosMapping as ListedFamily>⟧.members tt) 3 3 (λ xs. vlan.EgressQos xs) }
     ensures vlan_ingress_qos { HoldsListOf (⟦<InfoVlan as ListedFamily>⟧.members tt)
         (⟦<VlanQosMapping as ListedFamily>⟧.members tt) 4 4 (λ xs. vlan.IngressQos xs) }
+// End: written by tables/generate.
+{}
+
+/// What an attribute holds whose row has a record, an array of numbers or a list of addresses: what
+/// its payload is, or the error in it. It is written with the type of its row, which has
+/// `NLA_F_NESTED` where the table says so, and the canonical payload.
+pub fn payloads_inside()
+    // Begin: written by tables/generate from tables/families (payloads).
+    ensures bond_arp_ip_target { HoldsPayload (⟦<InfoBond as ListedFamily>⟧.members tt)
+        v4_list_codec 8 8 (λ x. bond.ArpIpTarget x) }
+    ensures bond_ns_ip6_target { HoldsPayload (⟦<InfoBond as ListedFamily>⟧.members tt)
+        v6_list_codec 31 32799 (λ x. bond.NsIp6Target x) }
+    ensures can_bit_timing { HoldsPayload (⟦<InfoCan as ListedFamily>⟧.members tt)
+        can_bit_timing_codec 1 1 (λ x. can.BitTiming x) }
+    ensures can_bit_timing_const { HoldsPayload (⟦<InfoCan as ListedFamily>⟧.members tt)
+        can_bit_timing_const_codec 2 2 (λ x. can.BitTimingConst x) }
+    ensures can_berr_counter { HoldsPayload (⟦<InfoCan as ListedFamily>⟧.members tt)
+        can_berr_counter_codec 8 8 (λ x. can.BerrCounter x) }
+    ensures can_data_bit_timing { HoldsPayload (⟦<InfoCan as ListedFamily>⟧.members tt)
+        can_bit_timing_codec 9 9 (λ x. can.DataBitTiming x) }
+    ensures can_data_bit_timing_const { HoldsPayload (⟦<InfoCan as ListedFamily>⟧.members tt)
+        can_bit_timing_const_codec 10 10 (λ x. can.DataBitTimingConst x) }
+    ensures can_termination_const { HoldsPayload (⟦<InfoCan as ListedFamily>⟧.members tt)
+        le16s_codec 12 12 (λ x. can.TerminationConst x) }
+    ensures can_bit_rate_const { HoldsPayload (⟦<InfoCan as ListedFamily>⟧.members tt)
+        le32s_codec 13 13 (λ x. can.BitRateConst x) }
+    ensures can_data_bit_rate_const { HoldsPayload (⟦<InfoCan as ListedFamily>⟧.members tt)
+        le32s_codec 14 14 (λ x. can.DataBitRateConst x) }
+    ensures can_xl_data_bit_timing { HoldsPayload (⟦<InfoCan as ListedFamily>⟧.members tt)
+        can_bit_timing_codec 18 18 (λ x. can.XlDataBitTiming x) }
+    ensures can_xl_data_bit_rate_const { HoldsPayload (⟦<InfoCan as ListedFamily>⟧.members tt)
+        le32s_codec 20 20 (λ x. can.XlDataBitRateConst x) }
 // End: written by tables/generate.
 {}
