@@ -29,8 +29,8 @@ Layout = collections.namedtuple("Layout", [
 class Row:
     """An attribute. `under` is the kind of link that alone has it, else empty; `kernel` the
     kernel's name; `value` the type that the number is made into, or none. `variants` are none if it
-    is shown, and otherwise opaque; two if an empty payload has one. `payload` is whether its payload
-    is a value of a type of its own, and `inner` the family if that is a list of one."""
+    is shown, and otherwise opaque; two if an empty payload has one. `payload` is whether its
+    payload is a value of a type of its own, and `inner` the family if that is a list of one."""
 
     def __init__(self, row, prefix, layouts, values):
         self.line, self.docs = row.line, row.docs

@@ -2,7 +2,7 @@
 import re
 
 from .families import NEST
-from .text import pairs, snake, spelled
+from .text import CALL, MOST, broken, fill, pairs, snake, spelled
 
 SEARCHED = 10   # up to so many variants, `ExactEq` is found by a search
 LONG = 8        # from so many rows on, what a label keeps is a line for each row
@@ -30,11 +30,11 @@ def kept(row, marks):
 def keeps(rows):
     """What the labels keep."""
     proofs = [row["kept"] for row in rows]
-    if len(rows) >= LONG:
+    if len(rows) >= LONG or "\n" in pairs(proofs, "    ") and "\n" not in pairs(proofs):
         proofs = [it if it.endswith("_keeps") else f"({it})" for it in proofs]
         return f"\n    ({proofs[0]}" + "".join(f"\n    & {it}" for it in [*proofs[1:], "tt"]) + ")"
-    text = pairs(proofs, "    ")
-    return f" {pairs(proofs)}" if "\n" in text else f"\n    {text}"
+    text, apart = pairs(proofs, "    "), pairs(proofs)
+    return f" {apart}" if "\n" in text else f"\n    {text}"
 
 
 def stored(row, marks, seen):
@@ -90,7 +90,8 @@ def of_row(row):
     it, own = snake(row.inner), row.layout.codec
     return {
         **vars(row), "number": str(row.number), "held": f"({field})" if field else "",
-        "table": not row.payload, "in_code": row.shape + f"(Family::{row.inner})" * bool(row.inner),
+        "table": not row.payload,
+        "in_code": row.shape + f"(Family::{row.inner})" * bool(row.inner),
         "in_specs": f"{row.shape} family.{row.inner}" if row.inner else row.shape,
         "term": f"({row.shape} family.{row.inner})" if row.inner else row.shape,
         "own": own, "codec": f"(list_of {it}_members)" if row.inner else f"{own}_codec",
@@ -112,7 +113,8 @@ def of_row(row):
         "made_from": row.made == "flags" or row.numbered, "variable": row.layout.variable,
         "condition": row.layout.condition,
         "said": (simple or bool(own)) and row.layout.condition,
-        "arm": not (row.two or row.payload), "plain": not row.under, "names": ", ".join(row.variants)}
+        "arm": not (row.two or row.payload), "plain": not row.under,
+        "names": ", ".join(row.variants)}
 
 
 def of_rows(family, is_listed):
@@ -157,23 +159,28 @@ def reads(family, shapes):
         for row in family.typed if row.shape == "Name")
 
 
-def chained(items, last):
-    """Pairs of a list, the first item outside: (A, (B, last))."""
-    text = last
-    for item in reversed(items):
-        text = item.replace("..", text)
-    return text
+def listed_types(rows):
+    """The types of rows as a list: a tree of pairs, of which each item has no kind."""
+    if not rows:
+        return "", "()"
+    return ("", f"{rows[0]['variant']}Row<()>"), listed_types(rows[1:])
+
+
+def cons(items, last="[]"):
+    """A list in specs, in lines that begin with four spaces but for the first."""
+    return fill([*(f"{item} ∷" for item in items), last], "    ", MOST - len(") n (")).strip()
 
 
 def owned(rows):
     """Whether a type `n` is that of one of the rows."""
-    return chained([f"((n == {row['number']}) || ..)" for row in rows], "false")
+    return f"is_among ({cons(row['number'] for row in rows)}) n" if rows else "false"
 
 
-def beside(rows, table):
+def beside(rows, table, indent):
     """That the type of an attribute `d` is that of none of the rows, nor of a row of a table."""
-    text = chained([f"(masked d.kind ≢ {row['number']}) × (..)" for row in rows], "IsUnknown ‹› d")
-    return text.replace("(IsUnknown ‹› d)", "IsUnknown ‹› d").replace("‹›", table)
+    unknown = f"IsUnknown {table} d"
+    numbers = cons(row["number"] for row in rows)
+    return f"IsBeside ({numbers}) (masked d.kind) ¦\n{indent}({unknown})" if rows else unknown
 
 
 def chain(family, inner):
@@ -196,10 +203,10 @@ def custom(family, inner):
         later = inner[at + 1:]
         row |= {"of_types": "e" if at else "h", "others": "e" if later else "_",
                 "rest": suffixes[at + 1] if later else f"(table_row {its}_plain)",
-                "rest_owned": owned(later), "rest_beside": beside(later, f"{its}_plain"),
-                "rest_shapes": "".join(
-                    f"({it['number']}, {it['in_specs']}) ∷ " for it in later)
-                + f"without_labels {its}_plain"}
+                "rest_owned": f"({owned(later)})" if later else "false",
+                "rest_beside": beside(later, f"{its}_plain", " " * 6),
+                "rest_shapes": cons((f"({it['number']}, {it['in_specs']})" for it in later),
+                                    f"without_labels {its}_plain")}
     lists = [row for row in inner if row["inner"]]
     inside = dict.fromkeys((row["inner_it"], row["inner_spec"]) for row in lists)
     owns = sorted({row["own"] for row in inner} - {""})
@@ -218,11 +225,12 @@ def custom(family, inner):
         "suits": f"({its}_suits c.args.decoded c.requires)" if inner else "c.requires",
         "own_variants": "".join(f"{row['variant']}, " for row in inner),
         "held": ", ".join(f"is_{row['either']}" for row in inner),
-        "custom": chained([f"({row['variant']}Row<()>, ..)" for row in inner], "()"),
+        "custom": broken(listed_types(inner), " " * 4, " " * 4, MOST - len("type Custom = ;"),
+                         CALL),
         "owned": owned(inner), "suffixes": ", ".join(suffixes), "chain": chain(family, inner),
         "first_rows": suffixes[0] if inner else "",
-        "is_held": chained([f"(is_{row['either']} x || ..)" for row in inner], "false"),
-        "beside": beside(inner, f"{its}_plain" if inner else f"{its}_rows"),
+        "is_held": f"is_held ({cons('is_' + row['either'] for row in inner)}) x",
+        "beside": beside(inner, f"{its}_plain" if inner else f"{its}_rows", " " * 4),
         "inner_rows": "".join(f"use {spec}.{name}.{{{it}_attribute, {it}_lawful, {it}_members}}\n"
                               for it, name in inside),
         "inner_conditions": "".join(

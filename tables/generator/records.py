@@ -1,20 +1,20 @@
-"""Reads tables/records, and writes the records of linkinfo_payloads: a module, and a file of specs/.
-A record is a block: a line of its name and its shape, its doc comment, and a line for each field.
-"""
+"""Reads tables/records, and writes the records of linkinfo_payloads: a module, and a file of
+specs/. A record is a block: a line of its name and its shape, its doc comment, and a line for each
+field."""
 import itertools
 import re
 
 from . import form
 from .parts import Part, Whole
 from .places import put_in, sections
-from .text import MOST, snake, tidy
+from .text import CALL, MOST, broken, is_pair, laid, snake, tidy
 
 CRATE = "crates/linkinfo_payloads"
 HEAD = re.compile(r"(\w+)  +(\w+)")
 FIELD = re.compile(r"    ([a-z]\w*)  +(Be16|Le16|Le32|\[(\d+)\])  +(\w.*)")
 # Of each layout of a field: its width; its type as a field of the record, and as one of the list of
 # fields; in specs its type, and its layout; what its doc comment ends with.
-CALL, LITERAL = 60, 18      # how many characters rustfmt has in a tuple, and in a struct, on one line
+LITERAL = 18        # how many characters rustfmt has on one line in a struct
 LAYOUTS = {"Be16": (2, "u16", "BigEndian", "BigEndian", "be16", ", big-endian"),
            "Le16": (2, "u16", "u16", "ℕ", "le16", ", little-endian"),
            "Le32": (4, "u32", "u32", "ℕ", "le32", ", little-endian")}
@@ -34,29 +34,6 @@ def tree(items):
     kinds = [kind for kind, _ in items]
     at = 1 if len(items) > 2 and kinds[0] not in kinds[1:] else len(items) // 2
     return tree(items[:at]), tree(items[at:])
-
-
-def is_pair(node):
-    """Whether a node of a tree is a pair, and no item."""
-    return isinstance(node[0], tuple)
-
-
-def laid(node, between=", ", outer="()"):
-    """A tree on one line; the outer pair may be without parentheses."""
-    if not is_pair(node):
-        return node[1]
-    first, second = (laid(it, between) for it in node)
-    return f"{outer[0]}{first}{between}{second}{outer[1]}"
-
-
-def broken(node, indent, step, most, width=MOST):
-    """A tree, each pair on one line if it ends before `most` and its items have at most `width`
-    characters, else in lines of its own, which are indented by `step`."""
-    line = laid(node)
-    if not is_pair(node) or len(indent) + len(line) <= most and len(line) - 2 <= width:
-        return line
-    inner = [f"{indent + step}{broken(it, indent + step, step, MOST - 1, width)},\n" for it in node]
-    return f"(\n{''.join(inner)}{indent})"
 
 
 def path_of(node, path):
@@ -109,7 +86,8 @@ class Record:
                 "doc": self.doc if self.doc.endswith(".") else f"{self.doc}.", "values": values,
                 "len": str(sum(layout[0] for layout in layouts)),
                 "short": len(given) <= LITERAL and given, "long": len(given) > LITERAL,
-                "fields": broken(made(kinds), " " * 4, " " * 4, MOST - len("type Fields = ;"), CALL),
+                "fields": broken(made(kinds), " " * 4, " " * 4, MOST - len("type Fields = ;"),
+                                 CALL),
                 "pattern": broken(made(names), " " * 8, " " * 4, MOST - len("let  = fields;")),
                 "taken": broken(made(taken), " " * 8, " " * 4, MOST, CALL),
                 "types": laid(made([it[3] for it in layouts]), " × ", ("", "")),
@@ -135,7 +113,8 @@ def outputs(tables):
         "codec", "fields", "layout", "of", "payload")))
     code = "".join(put_in(found["code"], row) for row in rows)
     specs = "".join(put_in(found["specs import"], row) for row in sorted(
-        rows, key=lambda row: row["name"])) + "".join(put_in(found["specs code"], row) for row in rows)
+        rows, key=lambda row: row["name"])) + "".join(
+            put_in(found["specs code"], row) for row in rows)
     yield Whole(f"{CRATE}/src/records.rt", "records",
                 put_in(found["head"], {"laws": laws}) + code)
     yield Whole(f"{CRATE}/specs/Records.antt", "records", found["specs head"] + specs)

@@ -67,7 +67,8 @@ module _ {X : Type 0} (width : ℕ) (of : List ℕ → X) (bytes : X → List �
     pub others : IsOk (addresses width of more)
     pub written : IsAttribute a → (k : ℕ) →
         written_from width of bytes k (Ok a ∷ more)
-        ≡ canonical_string (record { kind = k; value = a.value }) ++ written_from width of bytes (k + 1) more
+        ≡ canonical_string (record { kind = k; value = a.value })
+        ++ written_from width of bytes (k + 1) more
 
   pub accepted_on : (a : Attribute) (more : List (Result Attribute ℕ)) →
       IsOk (addresses width of (Ok a ∷ more)) → Accepted a more
@@ -77,7 +78,8 @@ module _ {X : Type 0} (width : ℕ) (of : List ℕ → X) (bytes : X → List �
       ok_rest (Ok xs) i = refl
       ok_rest (Err e) i = i
 
-      string_of : (k : ℕ) (r : Result (List X) PayloadError) → IsOk r → bytes (of a.value) ≡ a.value →
+      string_of : (k : ℕ) (r : Result (List X) PayloadError) → IsOk r →
+          bytes (of a.value) ≡ a.value →
           bytes_for (λ (xs : List X). list_string (numbered bytes k xs))
           (with_first (of a.value) r)
           ≡ canonical_string (record { kind = k; value = a.value })

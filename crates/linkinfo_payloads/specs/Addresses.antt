@@ -322,7 +322,8 @@ module _ {X : Type 0} (width : ℕ) (of : List ℕ → X) (bytes : X → List �
 
   no_own_memory : (e : PayloadError) → e ≡ Own cause.Memory →
       (e ≡ Own cause.Length) ⊎ (e ≡ Inside header_error) → ⊥
-  no_own_memory e is (inl k) = let both : Own cause.Memory ≡ Own cause.Length = sym is ∙ k in absurd cc
+  no_own_memory e is (inl k) =
+      let both : Own cause.Memory ≡ Own cause.Length = sym is ∙ k in absurd cc
   no_own_memory e is (inr k) =
       let both : Own cause.Memory ≡ Inside header_error = sym is ∙ k in absurd cc
 
@@ -387,7 +388,8 @@ module _ {X : Type 0} (width : ℕ) (of : List ℕ → X) (bytes : X → List �
         frames.1,
         long,
         four,
-        ap (λ (zs : List X). length zs * (4 + width)) (r.whole ∙ ap (λ zs. r.x ∷ zs) (nothing r.xs r.others)),
+        ap (λ (zs : List X). length zs * (4 + width))
+            (r.whole ∙ ap (λ zs. r.x ∷ zs) (nothing r.xs r.others)),
       )
     where
       nothing : (zs : List X) → values element [] ≡ Ok zs → zs ≡ []

@@ -222,4 +222,9 @@ pub array_long : {X : Type 0} (width : ℕ) (bytes : X → List ℕ) →
     length (flat_map bytes xs) ≡ length xs * width
 array_long width bytes long [] = omega arith
 array_long width bytes long (x ∷ xs) =
-    omega (arith, length-append (bytes x) (flat_map bytes xs), long x, array_long width bytes long xs)
+    omega (
+      arith,
+      length-append (bytes x) (flat_map bytes xs),
+      long x,
+      array_long width bytes long xs,
+    )

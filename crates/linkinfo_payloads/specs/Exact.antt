@@ -95,7 +95,8 @@ module _ {X : Type 0} (accepted : ℕ → Bool) (of : List ℕ → X) (bytes : X
   abbrev codec : Codec
   codec = codec_with (exact_means accepted of) bytes Holds bytes_eq (λ _. 0) needs_memory
 
-  pub exact_reads : (p : List ℕ) → accepted (length p) ≡ true → exact_means accepted of p ≡ Ok (of p)
+  pub exact_reads : (p : List ℕ) → accepted (length p) ≡ true →
+      exact_means accepted of p ≡ Ok (of p)
   exact_reads p h = cond-true (accepted (length p)) _ _ h
 
   -- an accepted payload, and its value
@@ -144,7 +145,8 @@ module _ {X : Type 0} (accepted : ℕ → Bool) (of : List ℕ → X) (bytes : X
         );
     quarter = λ p. omega arith;
     no_own_memory = λ p e. length_no_memory (sym (exact_error p (Own cause.Memory) e).0);
-    no_inner_memory = λ p e. own_no_inside memory_error (sym (exact_error p (Inside memory_error) e).0);
+    no_inner_memory = λ p e.
+        own_no_inside memory_error (sym (exact_error p (Inside memory_error) e).0);
   }
 
   pub exact_payload : (shape : Shape) → IsExact shape → IsPayload shape [] codec

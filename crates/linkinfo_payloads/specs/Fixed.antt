@@ -175,7 +175,8 @@ fixed_pair {width = width} {width' = width'} {of = of} {bytes = bytes} {of' = of
 abbrev pub big_endian : ℕ → BigEndian
 big_endian n = record { number = n }
 
-pub fixed_big_endian : IsFixed 2 (λ p. big_endian (from_be_bytes w16 p)) (λ n. to_be_bytes w16 n.number)
+pub fixed_big_endian : IsFixed 2 (λ p. big_endian (from_be_bytes w16 p))
+    (λ n. to_be_bytes w16 n.number)
     (λ n. n.number < 2 ^ 16)
 fixed_big_endian =
     let fixed = fixed_shape shape.Be16 2 (from_be_bytes w16) (λ p. refl) refl in record {

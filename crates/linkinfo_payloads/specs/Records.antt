@@ -53,8 +53,8 @@ can_berr_counter_codec =
 
 pub can_berr_counter_payload : IsPayload shape.LePair16 [] can_berr_counter_codec
 can_berr_counter_payload =
-    record_payload shape.LePair16 tt can_berr_counter_layout can_berr_counter_of can_berr_counter_fields
-    (λ x. refl) (λ f. refl)
+    record_payload shape.LePair16 tt can_berr_counter_layout
+    can_berr_counter_of can_berr_counter_fields (λ x. refl) (λ f. refl)
 
 -- CanBitTiming
 abbrev pub can_bit_timing_layout : Layout (((ℕ × ℕ) × (ℕ × ℕ)) × ((ℕ × ℕ) × (ℕ × ℕ)))
@@ -87,8 +87,10 @@ can_bit_timing_payload =
     (λ x. refl) (λ f. refl)
 
 -- CanBitTimingConst
-abbrev pub can_bit_timing_const_layout : Layout (List ℕ × (((ℕ × ℕ) × (ℕ × ℕ)) × ((ℕ × ℕ) × (ℕ × ℕ))))
-can_bit_timing_const_layout = octets 16 ⨾ (((le32 ⨾ le32) ⨾ (le32 ⨾ le32)) ⨾ ((le32 ⨾ le32) ⨾ (le32 ⨾ le32)))
+abbrev pub can_bit_timing_const_layout :
+    Layout (List ℕ × (((ℕ × ℕ) × (ℕ × ℕ)) × ((ℕ × ℕ) × (ℕ × ℕ))))
+can_bit_timing_const_layout =
+    octets 16 ⨾ (((le32 ⨾ le32) ⨾ (le32 ⨾ le32)) ⨾ ((le32 ⨾ le32) ⨾ (le32 ⨾ le32)))
 
 abbrev pub can_bit_timing_const_of : List ℕ × (((ℕ × ℕ) × (ℕ × ℕ)) × ((ℕ × ℕ) × (ℕ × ℕ))) →
     CanBitTimingConst
@@ -120,5 +122,5 @@ can_bit_timing_const_codec =
 
 pub can_bit_timing_const_payload : IsPayload shape.CanBitTimingConst [] can_bit_timing_const_codec
 can_bit_timing_const_payload =
-    record_payload shape.CanBitTimingConst tt can_bit_timing_const_layout can_bit_timing_const_of can_bit_timing_const_fields
-    (λ x. refl) (λ f. refl)
+    record_payload shape.CanBitTimingConst tt can_bit_timing_const_layout
+    can_bit_timing_const_of can_bit_timing_const_fields (λ x. refl) (λ f. refl)

@@ -411,7 +411,7 @@ impl LinkPayload for CanBitTiming {
 pub struct CanBitTimingConst {
     /// The name of the controller, which ends at the first zero byte.
     pub name: [u8; 16],
-    /// The least length of the segment before the sample point (`tseg1_min`), little-endian.
+    /// The least length of the segment before the sample (`tseg1_min`), little-endian.
     pub segment_1_min: u32,
     /// The greatest length of that segment (`tseg1_max`), little-endian.
     pub segment_1_max: u32,

@@ -1,6 +1,6 @@
 -- Written by tables/generate from tables/bond.
 -- The rows of `bond` links.
-use Rattle.std.specs.Prelude.{◌≡◌, ◌==◌, ◌||◌, ℕ, Bool, true, false, List, [], ◌∷◌, refl}
+use Rattle.std.specs.Prelude.{◌≡◌, ℕ, Bool, true, false, List, [], ◌∷◌, refl}
 use Rattle.std.proofs.Common.{lit<}
 use Rattle.nla_frame.specs.Attribute.{Attribute}
 use Rattle.nla_frame.specs.Kept.{attribute_of}
@@ -25,7 +25,7 @@ use Rattle.linkinfo_table.specs.FamilyRows.{
 use Rattle.linkinfo_table.specs.Rows.{written_kind}
 use Rattle.linkinfo_table.specs.TypedRows.{with_flat, with_lookup, with_owes, with_row}
 use Rattle.linkinfo_table.specs.declared.decoded.Decoded.{Decoded}
-use Rattle.linkinfo_typed.specs.PayloadRows.{with_suits}
+use Rattle.linkinfo_typed.specs.PayloadRows.{is_among, is_held, with_suits}
 use Rattle.linkinfo_shapes.specs.Typed.{typed_shape_of}
 use Rattle.linkinfo_shapes.specs.declared.shape.Shape.TheVariants.{
   U8,
@@ -144,7 +144,8 @@ bond_attribute (TlbDynamicLb n) = typed 27 U8 n
 bond_attribute (PeerNotifDelay n) = typed 28 Le32 n
 bond_attribute (AdLacpActive n) = typed 29 U8 n
 bond_attribute (MissedMax n) = typed 30 U8 n
-bond_attribute (NsIp6Target x) = record { kind = written_kind true 31; value = v6_list_codec.canon x }
+bond_attribute (NsIp6Target x) =
+    record { kind = written_kind true 31; value = v6_list_codec.canon x }
 bond_attribute (CoupledControl n) = typed 32 U8 n
 bond_attribute (BroadcastNeigh n) = typed 33 U8 n
 bond_attribute (Other nla) = attribute_of nla
@@ -183,7 +184,7 @@ bond_keeps = each_keeps bond_attribute bond_plain refl
     & (λ n. refl)
     & tt)
 
--- the rows with payloads of types of their own, each before the others, and those of the table
+-- rows with payloads of types of their own, each before the others, and those of the table
 abbrev pub bond_from_ns_ip6_target : ℕ → FamilyRow InfoBond
 bond_from_ns_ip6_target n =
     with_row 31 V6List true v6_list_codec
@@ -207,10 +208,10 @@ bond_owes n =
     v6_list_payload.codec (λ _. refl) (λ x y e. cc) (
     table_owes bond_attribute bond_plain bond_keeps)) n
 
-pub bond_flat : (n : ℕ) → ((n == 8) || ((n == 31) || false)) ≡ false → IsFlat (bond_rows n)
+pub bond_flat : (n : ℕ) → is_among (8 ∷ 31 ∷ []) n ≡ false → IsFlat (bond_rows n)
 bond_flat n h =
     with_flat 8 V4List false v4_list_codec (λ x. ArpIpTarget x) bond_from_ns_ip6_target
-    ((n == 31) || false) n h (λ e.
+    (is_among (31 ∷ []) n) n h (λ e.
     with_flat 31 V6List true v6_list_codec (λ x. NsIp6Target x) (table_row bond_plain)
     false n e (λ _.
     table_flat bond_attribute bond_plain bond_keeps n))
@@ -247,8 +248,8 @@ abbrev pub is_ns_ip6_target : InfoBond → Bool
 is_ns_ip6_target (NsIp6Target x) = true
 is_ns_ip6_target _ = false
 
-pub bond_elsewhere : (x : InfoBond) →
-    (is_arp_ip_target x || (is_ns_ip6_target x || false)) ≡ false → bond_is_custom x ≡ false
+pub bond_elsewhere : (x : InfoBond) → is_held (is_arp_ip_target ∷ is_ns_ip6_target ∷ []) x ≡ false →
+    bond_is_custom x ≡ false
 bond_elsewhere (ArpIpTarget x) h = h
 bond_elsewhere (NsIp6Target x) h = h
 bond_elsewhere _ h = refl

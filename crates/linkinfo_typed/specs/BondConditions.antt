@@ -1,7 +1,7 @@
 -- Written by tables/generate from tables/bond.
 -- Which attributes are well formed, by the variant of each, in the data of
 -- `bond` links.
-use Rattle.std.specs.Prelude.{◌≡◌, ◌≢◌, ◌↔◌, ◌<◌, ◌^◌, Bool, true, false, length, refl}
+use Rattle.std.specs.Prelude.{◌≡◌, ◌↔◌, ◌<◌, ◌^◌, Bool, true, false, length, refl}
 use Rattle.std.proofs.Common.{subst}
 use Rattle.nla_frame.specs.Attribute.{IsBytes, masked}
 use Rattle.linkinfo_shapes.specs.Shapes.{IsIpv4, IsIpv6}
@@ -9,6 +9,7 @@ use Rattle.linkinfo_table.specs.Conditions.{IsUnknown, are_typed, unknown_after,
 use Rattle.linkinfo_table.specs.FamilyRows.{row_of, table_row}
 use Rattle.linkinfo_table.specs.Lists.{AllWell}
 use Rattle.linkinfo_table.specs.Rows.{WellFormed}
+use Rattle.linkinfo_typed.specs.PayloadRows.{IsBeside}
 use Rattle.linkinfo_typed.specs.Bond.{
   bond_attribute,
   bond_plain,
@@ -51,8 +52,7 @@ bond_conditions (bond.MissedMax n) = n < 256
 bond_conditions (bond.NsIp6Target xs) = AllWell IsIpv6 xs
 bond_conditions (bond.CoupledControl n) = n < 256
 bond_conditions (bond.BroadcastNeigh n) = n < 256
-bond_conditions (bond.Other d) =
-    (masked d.kind ≢ 8) × ((masked d.kind ≢ 31) × IsUnknown bond_plain d)
+bond_conditions (bond.Other d) = IsBeside (8 ∷ 31 ∷ []) (masked d.kind) (IsUnknown bond_plain d)
 
 abbrev bond_is_other : InfoBond → Bool
 bond_is_other (bond.Other d) = true
@@ -63,8 +63,8 @@ pub bond_stated : (x : InfoBond) → WellFormed (λ d. bond.Other d) bond_attrib
 unfolding WellFormed
 bond_stated = elim [
   | bond.Other d ↦ unknown_after (λ z. bond.Other z) 8 (masked d.kind)
-      (bond_rows 8) (bond_from_ns_ip6_target (masked d.kind)) d
-      ((masked d.kind ≢ 31) × IsUnknown bond_plain d)
+      (bond_rows 8) (bond_from_ns_ip6_target (masked d.kind)) d (IsBeside (31 ∷ []) (masked d.kind)
+      (IsUnknown bond_plain d))
       (λ w. let no : bond.ArpIpTarget w.0 ≡ bond.Other d = w.2 in cc) (
       unknown_after (λ z. bond.Other z) 31 (masked d.kind)
       (bond_rows 31) ((table_row bond_plain) (masked d.kind)) d (IsUnknown bond_plain d)

@@ -1,9 +1,10 @@
 -- Written by tables/generate from tables/can.
 -- The rows of `can` links.
-use Rattle.std.specs.Prelude.{◌≡◌, ◌==◌, ◌||◌, ℕ, Bool, true, false, List, [], ◌∷◌, refl}
+use Rattle.std.specs.Prelude.{◌≡◌, ℕ, Bool, true, false, List, [], ◌∷◌, refl}
 use Rattle.std.proofs.Common.{lit<}
 use Rattle.nla_frame.specs.Attribute.{Attribute}
 use Rattle.nla_frame.specs.Kept.{attribute_of}
+use Rattle.nla_frame.specs.Pairs.{◌&◌}
 use Rattle.nla_frame.specs.declared.error.Family.TheVariants as family
 use Rattle.linkinfo_table.specs.FamilyRowLaws.{table_flat, table_lookup, table_owes}
 use Rattle.linkinfo_table.specs.FamilyRows.{
@@ -23,7 +24,7 @@ use Rattle.linkinfo_table.specs.FamilyRows.{
 }
 use Rattle.linkinfo_table.specs.TypedRows.{with_flat, with_lookup, with_owes, with_row}
 use Rattle.linkinfo_table.specs.declared.decoded.Decoded.{Decoded}
-use Rattle.linkinfo_typed.specs.PayloadRows.{with_suits}
+use Rattle.linkinfo_typed.specs.PayloadRows.{is_among, is_held, with_suits}
 use Rattle.linkinfo_shapes.specs.Typed.{typed_shape_of}
 use Rattle.linkinfo_shapes.specs.declared.shape.Shape.TheVariants.{
   Le32x8,
@@ -92,7 +93,8 @@ can_attribute (RestartMs n) = typed 6 Le32 n
 can_attribute (Restart n) = typed 7 Le32 n
 can_attribute (BerrCounter x) = record { kind = 8; value = can_berr_counter_codec.canon x }
 can_attribute (DataBitTiming x) = record { kind = 9; value = can_bit_timing_codec.canon x }
-can_attribute (DataBitTimingConst x) = record { kind = 10; value = can_bit_timing_const_codec.canon x }
+can_attribute (DataBitTimingConst x) =
+    record { kind = 10; value = can_bit_timing_const_codec.canon x }
 can_attribute (Termination n) = typed 11 Le16 n
 can_attribute (TerminationConst x) = record { kind = 12; value = le16s_codec.canon x }
 can_attribute (BitRateConst x) = record { kind = 13; value = le32s_codec.canon x }
@@ -103,9 +105,17 @@ can_attribute (XlDataBitRateConst x) = record { kind = 20; value = le32s_codec.c
 can_attribute (Other nla) = attribute_of nla
 
 pub can_keeps : EachKeeps can_attribute can_plain
-can_keeps = each_keeps can_attribute can_plain refl (λ n. refl, (λ n. refl, (λ pair. refl, (λ n. refl, (λ n. refl, (λ n. refl, (λ n. refl, tt)))))))
+can_keeps = each_keeps can_attribute can_plain refl
+    ((λ n. refl)
+    & (λ n. refl)
+    & (λ pair. refl)
+    & (λ n. refl)
+    & (λ n. refl)
+    & (λ n. refl)
+    & (λ n. refl)
+    & tt)
 
--- the rows with payloads of types of their own, each before the others, and those of the table
+-- rows with payloads of types of their own, each before the others, and those of the table
 abbrev pub can_from_xl_data_bit_rate_const : ℕ → FamilyRow InfoCan
 can_from_xl_data_bit_rate_const n =
     with_row 20 Le32s false le32s_codec
@@ -193,29 +203,30 @@ can_owes n =
     le32s_payload.codec (λ _. refl) (λ x y e. cc) (
     table_owes can_attribute can_plain can_keeps)))))))))) n
 
-pub can_flat : (n : ℕ) → ((n == 1) || ((n == 2) || ((n == 8) || ((n == 9) || ((n == 10) || ((n == 12) || ((n == 13) || ((n == 14) || ((n == 18) || ((n == 20) || false)))))))))) ≡ false → IsFlat (can_rows n)
+pub can_flat : (n : ℕ) → is_among (1 ∷ 2 ∷ 8 ∷ 9 ∷ 10 ∷ 12 ∷ 13 ∷ 14 ∷ 18 ∷ 20 ∷ []) n ≡ false →
+    IsFlat (can_rows n)
 can_flat n h =
     with_flat 1 Le32x8 false can_bit_timing_codec (λ x. BitTiming x) can_from_bit_timing_const
-    ((n == 2) || ((n == 8) || ((n == 9) || ((n == 10) || ((n == 12) || ((n == 13) || ((n == 14) || ((n == 18) || ((n == 20) || false))))))))) n h (λ e.
+    (is_among (2 ∷ 8 ∷ 9 ∷ 10 ∷ 12 ∷ 13 ∷ 14 ∷ 18 ∷ 20 ∷ []) n) n h (λ e.
     with_flat 2 CanBitTimingConst false can_bit_timing_const_codec
     (λ x. BitTimingConst x) can_from_berr_counter
-    ((n == 8) || ((n == 9) || ((n == 10) || ((n == 12) || ((n == 13) || ((n == 14) || ((n == 18) || ((n == 20) || false)))))))) n e (λ e.
+    (is_among (8 ∷ 9 ∷ 10 ∷ 12 ∷ 13 ∷ 14 ∷ 18 ∷ 20 ∷ []) n) n e (λ e.
     with_flat 8 LePair16 false can_berr_counter_codec (λ x. BerrCounter x) can_from_data_bit_timing
-    ((n == 9) || ((n == 10) || ((n == 12) || ((n == 13) || ((n == 14) || ((n == 18) || ((n == 20) || false))))))) n e (λ e.
+    (is_among (9 ∷ 10 ∷ 12 ∷ 13 ∷ 14 ∷ 18 ∷ 20 ∷ []) n) n e (λ e.
     with_flat 9 Le32x8 false can_bit_timing_codec
     (λ x. DataBitTiming x) can_from_data_bit_timing_const
-    ((n == 10) || ((n == 12) || ((n == 13) || ((n == 14) || ((n == 18) || ((n == 20) || false)))))) n e (λ e.
+    (is_among (10 ∷ 12 ∷ 13 ∷ 14 ∷ 18 ∷ 20 ∷ []) n) n e (λ e.
     with_flat 10 CanBitTimingConst false can_bit_timing_const_codec
     (λ x. DataBitTimingConst x) can_from_termination_const
-    ((n == 12) || ((n == 13) || ((n == 14) || ((n == 18) || ((n == 20) || false))))) n e (λ e.
+    (is_among (12 ∷ 13 ∷ 14 ∷ 18 ∷ 20 ∷ []) n) n e (λ e.
     with_flat 12 Le16s false le16s_codec (λ x. TerminationConst x) can_from_bit_rate_const
-    ((n == 13) || ((n == 14) || ((n == 18) || ((n == 20) || false)))) n e (λ e.
+    (is_among (13 ∷ 14 ∷ 18 ∷ 20 ∷ []) n) n e (λ e.
     with_flat 13 Le32s false le32s_codec (λ x. BitRateConst x) can_from_data_bit_rate_const
-    ((n == 14) || ((n == 18) || ((n == 20) || false))) n e (λ e.
+    (is_among (14 ∷ 18 ∷ 20 ∷ []) n) n e (λ e.
     with_flat 14 Le32s false le32s_codec (λ x. DataBitRateConst x) can_from_xl_data_bit_timing
-    ((n == 18) || ((n == 20) || false)) n e (λ e.
+    (is_among (18 ∷ 20 ∷ []) n) n e (λ e.
     with_flat 18 Le32x8 false can_bit_timing_codec
-    (λ x. XlDataBitTiming x) can_from_xl_data_bit_rate_const ((n == 20) || false) n e (λ e.
+    (λ x. XlDataBitTiming x) can_from_xl_data_bit_rate_const (is_among (20 ∷ []) n) n e (λ e.
     with_flat 20 Le32s false le32s_codec (λ x. XlDataBitRateConst x) (table_row can_plain)
     false n e (λ _.
     table_flat can_attribute can_plain can_keeps n))))))))))
@@ -224,19 +235,25 @@ can_flat n h =
 pub can_lookup : (n : ℕ) → lookup_of (can_rows n) ≡ lookup_in (typed_shape_of family.Can n)
 can_lookup n =
     with_lookup 1 Le32x8 false can_bit_timing_codec (λ x. BitTiming x) can_from_bit_timing_const
-    ((2, CanBitTimingConst) ∷ (8, LePair16) ∷ (9, Le32x8) ∷ (10, CanBitTimingConst) ∷ (12, Le16s) ∷ (13, Le32s) ∷ (14, Le32s) ∷ (18, Le32x8) ∷ (20, Le32s) ∷ without_labels can_plain) n (
+    ((2, CanBitTimingConst) ∷ (8, LePair16) ∷ (9, Le32x8) ∷ (10, CanBitTimingConst) ∷
+    (12, Le16s) ∷ (13, Le32s) ∷ (14, Le32s) ∷ (18, Le32x8) ∷ (20, Le32s) ∷
+    without_labels can_plain) n (
     with_lookup 2 CanBitTimingConst false can_bit_timing_const_codec
     (λ x. BitTimingConst x) can_from_berr_counter
-    ((8, LePair16) ∷ (9, Le32x8) ∷ (10, CanBitTimingConst) ∷ (12, Le16s) ∷ (13, Le32s) ∷ (14, Le32s) ∷ (18, Le32x8) ∷ (20, Le32s) ∷ without_labels can_plain) n (
+    ((8, LePair16) ∷ (9, Le32x8) ∷ (10, CanBitTimingConst) ∷ (12, Le16s) ∷ (13, Le32s) ∷
+    (14, Le32s) ∷ (18, Le32x8) ∷ (20, Le32s) ∷ without_labels can_plain) n (
     with_lookup 8 LePair16 false can_berr_counter_codec
     (λ x. BerrCounter x) can_from_data_bit_timing
-    ((9, Le32x8) ∷ (10, CanBitTimingConst) ∷ (12, Le16s) ∷ (13, Le32s) ∷ (14, Le32s) ∷ (18, Le32x8) ∷ (20, Le32s) ∷ without_labels can_plain) n (
+    ((9, Le32x8) ∷ (10, CanBitTimingConst) ∷ (12, Le16s) ∷ (13, Le32s) ∷ (14, Le32s) ∷
+    (18, Le32x8) ∷ (20, Le32s) ∷ without_labels can_plain) n (
     with_lookup 9 Le32x8 false can_bit_timing_codec
     (λ x. DataBitTiming x) can_from_data_bit_timing_const
-    ((10, CanBitTimingConst) ∷ (12, Le16s) ∷ (13, Le32s) ∷ (14, Le32s) ∷ (18, Le32x8) ∷ (20, Le32s) ∷ without_labels can_plain) n (
+    ((10, CanBitTimingConst) ∷ (12, Le16s) ∷ (13, Le32s) ∷ (14, Le32s) ∷ (18, Le32x8) ∷
+    (20, Le32s) ∷ without_labels can_plain) n (
     with_lookup 10 CanBitTimingConst false can_bit_timing_const_codec
     (λ x. DataBitTimingConst x) can_from_termination_const
-    ((12, Le16s) ∷ (13, Le32s) ∷ (14, Le32s) ∷ (18, Le32x8) ∷ (20, Le32s) ∷ without_labels can_plain) n (
+    ((12, Le16s) ∷ (13, Le32s) ∷ (14, Le32s) ∷ (18, Le32x8) ∷ (20, Le32s) ∷
+    without_labels can_plain) n (
     with_lookup 12 Le16s false le16s_codec (λ x. TerminationConst x) can_from_bit_rate_const
     ((13, Le32s) ∷ (14, Le32s) ∷ (18, Le32x8) ∷ (20, Le32s) ∷ without_labels can_plain) n (
     with_lookup 13 Le32s false le32s_codec (λ x. BitRateConst x) can_from_data_bit_rate_const
@@ -331,7 +348,9 @@ is_xl_data_bit_rate_const (XlDataBitRateConst x) = true
 is_xl_data_bit_rate_const _ = false
 
 pub can_elsewhere : (x : InfoCan) →
-    (is_bit_timing x || (is_bit_timing_const x || (is_berr_counter x || (is_data_bit_timing x || (is_data_bit_timing_const x || (is_termination_const x || (is_bit_rate_const x || (is_data_bit_rate_const x || (is_xl_data_bit_timing x || (is_xl_data_bit_rate_const x || false)))))))))) ≡ false →
+    is_held (is_bit_timing ∷ is_bit_timing_const ∷ is_berr_counter ∷ is_data_bit_timing ∷
+    is_data_bit_timing_const ∷ is_termination_const ∷ is_bit_rate_const ∷
+    is_data_bit_rate_const ∷ is_xl_data_bit_timing ∷ is_xl_data_bit_rate_const ∷ []) x ≡ false →
     can_is_custom x ≡ false
 can_elsewhere (BitTiming x) h = h
 can_elsewhere (BitTimingConst x) h = h

@@ -1,7 +1,7 @@
 -- Written by tables/generate from tables/can.
 -- Which attributes are well formed, by the variant of each, in the data of
 -- `can` links.
-use Rattle.std.specs.Prelude.{◌≡◌, ◌≢◌, ◌↔◌, ◌<◌, ◌^◌, Bool, true, false, refl}
+use Rattle.std.specs.Prelude.{◌≡◌, ◌↔◌, ◌<◌, ◌^◌, Bool, true, false, refl}
 use Rattle.std.specs.List.{AllByRecursion}
 use Rattle.std.proofs.Common.{subst}
 use Rattle.nla_frame.specs.Attribute.{masked}
@@ -14,6 +14,7 @@ use Rattle.linkinfo_payloads.specs.Payloads.{
   can_bit_timing_codec,
   can_bit_timing_const_codec,
 }
+use Rattle.linkinfo_typed.specs.PayloadRows.{IsBeside}
 use Rattle.linkinfo_typed.specs.Can.{
   can_attribute,
   can_plain,
@@ -50,7 +51,8 @@ can_conditions (can.BitRateMax n) = n < 2 ^ 32
 can_conditions (can.XlDataBitTiming x) = can_bit_timing_codec.Holds x
 can_conditions (can.XlDataBitRateConst xs) = AllByRecursion (λ n. n < 2 ^ 32) xs
 can_conditions (can.Other d) =
-    (masked d.kind ≢ 1) × ((masked d.kind ≢ 2) × ((masked d.kind ≢ 8) × ((masked d.kind ≢ 9) × ((masked d.kind ≢ 10) × ((masked d.kind ≢ 12) × ((masked d.kind ≢ 13) × ((masked d.kind ≢ 14) × ((masked d.kind ≢ 18) × ((masked d.kind ≢ 20) × IsUnknown can_plain d)))))))))
+    IsBeside (1 ∷ 2 ∷ 8 ∷ 9 ∷ 10 ∷ 12 ∷ 13 ∷ 14 ∷ 18 ∷ 20 ∷ []) (masked d.kind)
+    (IsUnknown can_plain d)
 
 abbrev can_is_other : InfoCan → Bool
 can_is_other (can.Other d) = true
@@ -62,39 +64,40 @@ unfolding WellFormed
 can_stated = elim [
   | can.Other d ↦ unknown_after (λ z. can.Other z) 1 (masked d.kind)
       (can_rows 1) (can_from_bit_timing_const (masked d.kind)) d
-      ((masked d.kind ≢ 2) × ((masked d.kind ≢ 8) × ((masked d.kind ≢ 9) × ((masked d.kind ≢ 10) × ((masked d.kind ≢ 12) × ((masked d.kind ≢ 13) × ((masked d.kind ≢ 14) × ((masked d.kind ≢ 18) × ((masked d.kind ≢ 20) × IsUnknown can_plain d)))))))))
+      (IsBeside (2 ∷ 8 ∷ 9 ∷ 10 ∷ 12 ∷ 13 ∷ 14 ∷ 18 ∷ 20 ∷ []) (masked d.kind)
+      (IsUnknown can_plain d))
       (λ w. let no : can.BitTiming w.0 ≡ can.Other d = w.2 in cc) (
       unknown_after (λ z. can.Other z) 2 (masked d.kind)
       (can_rows 2) (can_from_berr_counter (masked d.kind)) d
-      ((masked d.kind ≢ 8) × ((masked d.kind ≢ 9) × ((masked d.kind ≢ 10) × ((masked d.kind ≢ 12) × ((masked d.kind ≢ 13) × ((masked d.kind ≢ 14) × ((masked d.kind ≢ 18) × ((masked d.kind ≢ 20) × IsUnknown can_plain d))))))))
+      (IsBeside (8 ∷ 9 ∷ 10 ∷ 12 ∷ 13 ∷ 14 ∷ 18 ∷ 20 ∷ []) (masked d.kind) (IsUnknown can_plain d))
       (λ w. let no : can.BitTimingConst w.0 ≡ can.Other d = w.2 in cc) (
       unknown_after (λ z. can.Other z) 8 (masked d.kind)
       (can_rows 8) (can_from_data_bit_timing (masked d.kind)) d
-      ((masked d.kind ≢ 9) × ((masked d.kind ≢ 10) × ((masked d.kind ≢ 12) × ((masked d.kind ≢ 13) × ((masked d.kind ≢ 14) × ((masked d.kind ≢ 18) × ((masked d.kind ≢ 20) × IsUnknown can_plain d)))))))
+      (IsBeside (9 ∷ 10 ∷ 12 ∷ 13 ∷ 14 ∷ 18 ∷ 20 ∷ []) (masked d.kind) (IsUnknown can_plain d))
       (λ w. let no : can.BerrCounter w.0 ≡ can.Other d = w.2 in cc) (
       unknown_after (λ z. can.Other z) 9 (masked d.kind)
       (can_rows 9) (can_from_data_bit_timing_const (masked d.kind)) d
-      ((masked d.kind ≢ 10) × ((masked d.kind ≢ 12) × ((masked d.kind ≢ 13) × ((masked d.kind ≢ 14) × ((masked d.kind ≢ 18) × ((masked d.kind ≢ 20) × IsUnknown can_plain d))))))
+      (IsBeside (10 ∷ 12 ∷ 13 ∷ 14 ∷ 18 ∷ 20 ∷ []) (masked d.kind) (IsUnknown can_plain d))
       (λ w. let no : can.DataBitTiming w.0 ≡ can.Other d = w.2 in cc) (
       unknown_after (λ z. can.Other z) 10 (masked d.kind)
       (can_rows 10) (can_from_termination_const (masked d.kind)) d
-      ((masked d.kind ≢ 12) × ((masked d.kind ≢ 13) × ((masked d.kind ≢ 14) × ((masked d.kind ≢ 18) × ((masked d.kind ≢ 20) × IsUnknown can_plain d)))))
+      (IsBeside (12 ∷ 13 ∷ 14 ∷ 18 ∷ 20 ∷ []) (masked d.kind) (IsUnknown can_plain d))
       (λ w. let no : can.DataBitTimingConst w.0 ≡ can.Other d = w.2 in cc) (
       unknown_after (λ z. can.Other z) 12 (masked d.kind)
       (can_rows 12) (can_from_bit_rate_const (masked d.kind)) d
-      ((masked d.kind ≢ 13) × ((masked d.kind ≢ 14) × ((masked d.kind ≢ 18) × ((masked d.kind ≢ 20) × IsUnknown can_plain d))))
+      (IsBeside (13 ∷ 14 ∷ 18 ∷ 20 ∷ []) (masked d.kind) (IsUnknown can_plain d))
       (λ w. let no : can.TerminationConst w.0 ≡ can.Other d = w.2 in cc) (
       unknown_after (λ z. can.Other z) 13 (masked d.kind)
       (can_rows 13) (can_from_data_bit_rate_const (masked d.kind)) d
-      ((masked d.kind ≢ 14) × ((masked d.kind ≢ 18) × ((masked d.kind ≢ 20) × IsUnknown can_plain d)))
+      (IsBeside (14 ∷ 18 ∷ 20 ∷ []) (masked d.kind) (IsUnknown can_plain d))
       (λ w. let no : can.BitRateConst w.0 ≡ can.Other d = w.2 in cc) (
       unknown_after (λ z. can.Other z) 14 (masked d.kind)
       (can_rows 14) (can_from_xl_data_bit_timing (masked d.kind)) d
-      ((masked d.kind ≢ 18) × ((masked d.kind ≢ 20) × IsUnknown can_plain d))
+      (IsBeside (18 ∷ 20 ∷ []) (masked d.kind) (IsUnknown can_plain d))
       (λ w. let no : can.DataBitRateConst w.0 ≡ can.Other d = w.2 in cc) (
       unknown_after (λ z. can.Other z) 18 (masked d.kind)
       (can_rows 18) (can_from_xl_data_bit_rate_const (masked d.kind)) d
-      ((masked d.kind ≢ 20) × IsUnknown can_plain d)
+      (IsBeside (20 ∷ []) (masked d.kind) (IsUnknown can_plain d))
       (λ w. let no : can.XlDataBitTiming w.0 ≡ can.Other d = w.2 in cc) (
       unknown_after (λ z. can.Other z) 20 (masked d.kind)
       (can_rows 20) ((table_row can_plain) (masked d.kind)) d (IsUnknown can_plain d)

@@ -1,6 +1,19 @@
 -- Rows with payloads of types of their own: a decoded datum belongs to none of them, and an
 -- attribute of such a row means what its payload does.
-use Rattle.std.specs.Prelude.{◌≡◌, ◌==◌, ◌&&◌, ℕ, Bool, true, false, List}
+use Rattle.std.specs.Prelude.{
+  ◌≡◌,
+  ◌≢◌,
+  ◌==◌,
+  ◌&&◌,
+  ◌||◌,
+  ℕ,
+  Bool,
+  true,
+  false,
+  List,
+  [],
+  ◌∷◌,
+}
 use Rattle.std.proofs.Common.{ap, subst, sym, ◌∙◌}
 use Rattle.nla_frame.specs.Attribute.{Attribute, masked}
 use Rattle.nla_frame.specs.declared.default_nla.DefaultNla.{DefaultNla}
@@ -24,6 +37,21 @@ use Rattle.linkinfo_table.specs.TypedRows.{HasPayload, with_row}
 use Rattle.linkinfo_typed.specs.NestedLists.{first_of_type, headers_by, row_headers_are}
 use Rattle.linkinfo_table.specs.declared.decoded.Decoded.{Decoded}
 use Rattle.linkinfo_table.specs.declared.decoded.Decoded.TheVariants as decoded
+
+-- whether a type is one of these
+abbrev pub is_among : List ℕ → ℕ → Bool
+is_among [] n = false
+is_among (k ∷ ks) n = (n == k) || is_among ks n
+
+-- whether a value contains one of these payloads
+abbrev pub is_held : {X : Type 0} → List (X → Bool) → X → Bool
+is_held [] x = false
+is_held (f ∷ fs) x = f x || is_held fs x
+
+-- the type is none of these, and the other condition holds
+abbrev pub IsBeside : List ℕ → ℕ → Type 0 → Type 0
+IsBeside [] n other = other
+IsBeside (k ∷ ks) n other = (n ≢ k) × IsBeside ks n other
 
 -- what follows for the rows after one of them follows for all
 pub with_suits : {F R : Type 0} (k : ℕ) (shape : Shape) (nested : Bool) (codec : Codec)
@@ -89,8 +117,8 @@ pub holds_payload : {X : Type 0} {within : List Family} (family : Family) (other
     HoldsPayload
     (members_written_by_rows family other attribute rows attribute (headers_by lists) within) codec
     number kind label
-holds_payload family other attribute rows lists codec shape nested number kind label row count keeps =
-    record {
+holds_payload family other attribute rows lists codec shape nested number kind label row count
+    keeps = record {
       means = row_means family other rows codec shape nested number label row;
       headers = λ a typed. row_headers_are lists a number typed ∙ count a.value;
       alike = λ a b typed.

@@ -1,6 +1,6 @@
 -- Written by tables/generate from tables/vlan.
 -- The rows of `vlan` links.
-use Rattle.std.specs.Prelude.{◌≡◌, ◌==◌, ◌||◌, ℕ, Bool, true, false, List, [], ◌∷◌, map, refl}
+use Rattle.std.specs.Prelude.{◌≡◌, ℕ, Bool, true, false, List, [], ◌∷◌, map, refl}
 use Rattle.std.proofs.Common.{ap, lit<}
 use Rattle.nla_frame.specs.Attribute.{Attribute, list_string}
 use Rattle.nla_frame.specs.Kept.{attribute_of}
@@ -24,7 +24,7 @@ use Rattle.linkinfo_table.specs.FamilyRows.{
 use Rattle.linkinfo_table.specs.Members.{list_of, list_of_is_codec}
 use Rattle.linkinfo_table.specs.TypedRows.{with_flat, with_lookup, with_owes, with_row}
 use Rattle.linkinfo_table.specs.declared.decoded.Decoded.{Decoded}
-use Rattle.linkinfo_typed.specs.PayloadRows.{with_suits}
+use Rattle.linkinfo_typed.specs.PayloadRows.{is_among, is_held, with_suits}
 use Rattle.linkinfo_shapes.specs.Typed.{typed_shape_of}
 use Rattle.linkinfo_shapes.specs.declared.shape.Shape.TheVariants.{Le16, FlagPair, Nested, Be16}
 use Rattle.linkinfo_numbers.specs.Table.{key-value_of}
@@ -79,7 +79,7 @@ vlan_keeps = each_keeps vlan_attribute vlan_plain refl (
   (λ pair. refl, (λ n. ap (typed 5 Be16) (key-value_of vlan_protocol_table_holds n), tt)),
 )
 
--- the rows with payloads of types of their own, each before the others, and those of the table
+-- rows with payloads of types of their own, each before the others, and those of the table
 abbrev pub vlan_from_ingress_qos : ℕ → FamilyRow InfoVlan
 vlan_from_ingress_qos n =
     with_row 4 (Nested family.VlanQosMapping) false (list_of vlan_qos_mapping_members)
@@ -103,10 +103,10 @@ vlan_owes n =
     (list_of_is_codec vlan_qos_mapping_members vlan_qos_mapping_lawful) (λ _. refl) (λ x y e. cc) (
     table_owes vlan_attribute vlan_plain vlan_keeps)) n
 
-pub vlan_flat : (n : ℕ) → ((n == 3) || ((n == 4) || false)) ≡ false → IsFlat (vlan_rows n)
+pub vlan_flat : (n : ℕ) → is_among (3 ∷ 4 ∷ []) n ≡ false → IsFlat (vlan_rows n)
 vlan_flat n h =
     with_flat 3 (Nested family.VlanQosMapping) false (list_of vlan_qos_mapping_members)
-    (λ x. EgressQos x) vlan_from_ingress_qos ((n == 4) || false) n h (λ e.
+    (λ x. EgressQos x) vlan_from_ingress_qos (is_among (4 ∷ []) n) n h (λ e.
     with_flat 4 (Nested family.VlanQosMapping) false (list_of vlan_qos_mapping_members)
     (λ x. IngressQos x) (table_row vlan_plain) false n e (λ _.
     table_flat vlan_attribute vlan_plain vlan_keeps n))
@@ -145,7 +145,7 @@ abbrev pub is_ingress_qos : InfoVlan → Bool
 is_ingress_qos (IngressQos x) = true
 is_ingress_qos _ = false
 
-pub vlan_elsewhere : (x : InfoVlan) → (is_egress_qos x || (is_ingress_qos x || false)) ≡ false →
+pub vlan_elsewhere : (x : InfoVlan) → is_held (is_egress_qos ∷ is_ingress_qos ∷ []) x ≡ false →
     vlan_is_custom x ≡ false
 vlan_elsewhere (EgressQos x) h = h
 vlan_elsewhere (IngressQos x) h = h

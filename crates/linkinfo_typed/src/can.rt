@@ -543,7 +543,31 @@ impl<T> PayloadRow<InfoCan> for XlDataBitRateConstRow<T> {
 }
 
 impl TableFamily for InfoCan {
-    type Custom = (BitTimingRow<()>, (BitTimingConstRow<()>, (BerrCounterRow<()>, (DataBitTimingRow<()>, (DataBitTimingConstRow<()>, (TerminationConstRow<()>, (BitRateConstRow<()>, (DataBitRateConstRow<()>, (XlDataBitTimingRow<()>, (XlDataBitRateConstRow<()>, ()))))))))));
+    type Custom = (
+        BitTimingRow<()>,
+        (
+            BitTimingConstRow<()>,
+            (
+                BerrCounterRow<()>,
+                (
+                    DataBitTimingRow<()>,
+                    (
+                        DataBitTimingConstRow<()>,
+                        (
+                            TerminationConstRow<()>,
+                            (
+                                BitRateConstRow<()>,
+                                (
+                                    DataBitRateConstRow<()>,
+                                    (XlDataBitTimingRow<()>, (XlDataBitRateConstRow<()>, ())),
+                                ),
+                            ),
+                        ),
+                    ),
+                ),
+            ),
+        ),
+    );
 
     ghost flat_elsewhere = { λ _ n. can_flat n };
 

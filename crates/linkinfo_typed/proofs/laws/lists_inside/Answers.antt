@@ -8,8 +8,6 @@ use Rattle.linkinfo_typed.proofs.laws.lists_inside.Goals as goal
 use Rattle.linkinfo_typed.specs.Qos.{vlan_qos_mapping_members}
 -- End: written by tables/generate.
 -- Begin: written by tables/generate from tables/families (codecs).
-
-
 -- End: written by tables/generate.
 -- Begin: written by tables/generate from tables/families (rows).
 use Rattle.linkinfo_typed.specs.Vlan.{vlan_attribute, vlan_rows}
@@ -32,6 +30,7 @@ returns-clause-vlan_egress_qos c =
     holds_list family.Vlan (λ d. vlan.Other d) vlan_attribute vlan_rows vlan_lists
     vlan_qos_mapping_members (Nested family.VlanQosMapping) false 3 3 (λ xs. vlan.EgressQos xs)
     has_payload (λ _. refl) (λ _. refl)
+
 pub returns-clause-vlan_ingress_qos : goal.returns-clause-vlan_ingress_qos
 returns-clause-vlan_ingress_qos c =
     holds_list family.Vlan (λ d. vlan.Other d) vlan_attribute vlan_rows vlan_lists

@@ -5,6 +5,7 @@ use Rattle.linkinfo_typed.specs.Bond.{bond_lookup}
 use Rattle.linkinfo_typed.specs.Can.{can_lookup}
 use Rattle.linkinfo_typed.specs.Qos.{vlan_qos_mapping_rows}
 use Rattle.linkinfo_typed.specs.Vlan.{vlan_lookup}
+
 -- End: written by tables/generate.
 
 -- Begin: written by tables/generate from tables/families (clauses).
@@ -19,4 +20,5 @@ returns-clause-vlan_qos_mapping c = λ n. table_lookup vlan_qos_mapping_rows n
 
 pub returns-clause-vlan : goal.returns-clause-vlan
 returns-clause-vlan c = λ n. vlan_lookup n
+
 -- End: written by tables/generate.
