@@ -3,20 +3,16 @@ use Rattle.std.proofs.Common.{
   ◌≡◌,
   ℕ,
   ◌+◌,
-  ◌*◌,
   ◌<◌,
-  ◌≤◌,
   Bool,
   true,
   false,
   List,
-  [],
   ◌∷◌,
   ◌++◌,
   Result,
   Ok,
   Err,
-  append_assoc,
   length,
   drop,
   get_or,
@@ -24,26 +20,15 @@ use Rattle.std.proofs.Common.{
   sym,
   ap,
   ◌∙◌,
-  arith,
 }
 use Rattle.std.specs.Prelude.{◌==◌, if◌then◌else◌, IsOk}
-use Rattle.std.proofs.lemmas.Bool.{cond-true, cond-false, eq-eqb, eqb-true}
+use Rattle.std.proofs.lemmas.Bool.{cond-true, eqb-true}
 use Rattle.std.proofs.lemmas.List.{at_drop_more}
-use Rattle.nla_frame.specs.Answers.{verdict}
 use Rattle.nla_frame.specs.Attribute.{Attribute, IsAttribute, canonical_string, list_string}
 use Rattle.nla_frame.specs.Canonical.{bytes_for}
 use Rattle.nla_frame.specs.declared.error.Cause.TheVariants as cause
-use Rattle.nla_frame.specs.declared.error.DecodeError.{DecodeError}
-use Rattle.nla_frame.specs.declared.error.Family.{Family}
 use Rattle.linkinfo_table.specs.Codecs.{Own, PayloadError}
-use Rattle.linkinfo_table.specs.Payloads.{placed}
-use Rattle.linkinfo_payloads.specs.Addresses.{
-  address_headers,
-  address_memory,
-  addresses,
-  numbered,
-  with_first,
-}
+use Rattle.linkinfo_payloads.specs.Addresses.{addresses, numbered, with_first}
 use Rattle.linkinfo_payloads.specs.Fixed.{IsFixed}
 
 -- what follows values that are read already

@@ -1,14 +1,12 @@
 -- Lists of addresses: attributes of any types, each with the bytes of one address.
 use Rattle.std.specs.Prelude.{
   ◌≡◌,
-  ◌≢◌,
   ◌↔◌,
   ◌⊎◌,
   ℕ,
   ◌+◌,
   ◌*◌,
   ◌%◌,
-  ◌<◌,
   ◌≤◌,
   ◌==◌,
   Bool,
@@ -18,7 +16,6 @@ use Rattle.std.specs.Prelude.{
   List,
   [],
   ◌∷◌,
-  ◌++◌,
   length,
   Result,
   Ok,
@@ -32,28 +29,19 @@ use Rattle.std.proofs.Common.{arith, sym, ap, subst, inl, inr, ◌∙◌}
 use Rattle.std.proofs.lemmas.Bool.{cond-true, eq-eqb, eqb-true}
 use Rattle.std.proofs.lemmas.List.{length-append}
 use Rattle.std.proofs.lemmas.Slice.Eq.{bytes_eq-Decides}
-use Rattle.nla_frame.specs.Attribute.{
-  Attribute,
-  Fits,
-  IsAttribute,
-  IsBytes,
-  aligned,
-  list_string,
-  pad,
-}
+use Rattle.nla_frame.specs.Attribute.{Attribute, IsAttribute, IsBytes, list_string}
 use Rattle.nla_frame.specs.Canonical.{bytes_for}
 use Rattle.nla_frame.specs.Error.{header_error, memory_error}
 use Rattle.nla_frame.specs.Framing.{Begins, Frames}
 use Rattle.nla_frame.specs.NlaItems.{nla_items, nla_items_of}
 use Rattle.nla_frame.specs.declared.error.Cause.TheVariants as cause
 use Rattle.nla_frame.specs.declared.error.DecodeError.{DecodeError}
-use Rattle.nla_frame.specs.declared.error.Family.{Family}
 use Rattle.nla_frame.specs.declared.error.Family.TheVariants as family
 use Rattle.nla_frame.proofs.ByteLists.{IsBytes-list_string}
 use Rattle.nla_frame.proofs.Emitting.{length-list_string-cons}
 use Rattle.nla_frame.proofs.Stepping.{by_nla_items, nla_items-list_string, nla_items_nil, seen_room}
 use Rattle.linkinfo_shapes.specs.declared.shape.Shape.{Shape}
-use Rattle.linkinfo_shapes.specs.declared.shape.Shape.TheVariants.{Nested, Peer, V4List, V6List}
+use Rattle.linkinfo_shapes.specs.declared.shape.Shape.TheVariants.{V4List, V6List}
 use Rattle.linkinfo_table.specs.Codecs.{Codec, Inside, IsCodec, Own, PayloadError}
 use Rattle.linkinfo_table.specs.ListLaws.{
   accepted,
@@ -63,7 +51,6 @@ use Rattle.linkinfo_table.specs.ListLaws.{
   reads,
 }
 use Rattle.linkinfo_table.specs.Lists.{◌>>=◌, AllWell, alike_pairs, values}
-use Rattle.linkinfo_table.specs.Named.{IsNamed}
 use Rattle.linkinfo_table.specs.Payloads.{
   IsAddresses,
   IsExact,

@@ -2,8 +2,6 @@
 -- length.
 use Rattle.std.specs.Prelude.{
   ◌≡◌,
-  ◌≢◌,
-  ◌↔◌,
   ℕ,
   Bool,
   true,

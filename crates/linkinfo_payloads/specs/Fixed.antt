@@ -12,8 +12,6 @@ use Rattle.std.specs.Prelude.{
   false,
   if◌then◌else◌,
   List,
-  [],
-  ◌∷◌,
   ◌++◌,
   length,
   take,

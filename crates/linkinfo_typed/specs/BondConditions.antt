@@ -1,7 +1,7 @@
 -- Written by tables/generate from tables/bond.
 -- Which attributes are well formed, by the variant of each, in the data of
 -- `bond` links.
-use Rattle.std.specs.Prelude.{◌≡◌, ◌↔◌, ◌<◌, ◌^◌, Bool, true, false, length, refl}
+use Rattle.std.specs.Prelude.{◌≡◌, ◌↔◌, ◌<◌, ◌^◌, Bool, true, false, [], ◌∷◌, length, refl}
 use Rattle.std.proofs.Common.{subst}
 use Rattle.nla_frame.specs.Attribute.{IsBytes, masked}
 use Rattle.linkinfo_shapes.specs.Shapes.{IsIpv4, IsIpv6}

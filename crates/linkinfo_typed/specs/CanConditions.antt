@@ -1,7 +1,7 @@
 -- Written by tables/generate from tables/can.
 -- Which attributes are well formed, by the variant of each, in the data of
 -- `can` links.
-use Rattle.std.specs.Prelude.{◌≡◌, ◌↔◌, ◌<◌, ◌^◌, Bool, true, false, refl}
+use Rattle.std.specs.Prelude.{◌≡◌, ◌↔◌, ◌<◌, ◌^◌, Bool, true, false, [], ◌∷◌, refl}
 use Rattle.std.specs.List.{AllByRecursion}
 use Rattle.std.proofs.Common.{subst}
 use Rattle.nla_frame.specs.Attribute.{masked}

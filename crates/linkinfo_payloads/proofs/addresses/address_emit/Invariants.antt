@@ -1,4 +1,4 @@
-use Rattle.std.proofs.Common.{◌≡◌, ◌*◌, ◌≤◌, drop}
+use Rattle.std.proofs.Common.{◌*◌, ◌≤◌, drop}
 use Rattle.nla_frame.specs.Attribute.{list_string}
 use Rattle.nla_frame.proofs.Emitting.{Written}
 use Rattle.linkinfo_payloads.specs.Addresses.{address_string, numbered}

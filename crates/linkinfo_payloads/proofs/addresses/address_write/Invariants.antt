@@ -1,4 +1,4 @@
-use Rattle.std.proofs.Common.{◌≡◌, ◌+◌, ◌*◌, ◌≤◌, length}
+use Rattle.std.proofs.Common.{◌+◌, ◌*◌, ◌≤◌, length}
 use Rattle.std.specs.Prelude.{IsOk}
 use Rattle.nla_frame.specs.NlaItems.{nla_items}
 use Rattle.nla_frame.proofs.Emitting.{Written}
