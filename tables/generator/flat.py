@@ -41,7 +41,7 @@ def crate_parts(crate, families):
     owned = [row for row in rows if row["own"]]
     has = {name: [it for it in nesting if any(row[name] for row in it["values"])]
            for name in ("inner", "own")}
-    among = {row["inner"] for it in has["own"] for row in it["values"]}
+    among = {row["inner"] for it in has["own"] for row in it["values"]} - {""}
     listed = [row for it in has["inner"] for row in it["values"] if row["own"]]
     codecs, listed = ([{mark: ", ".join(sorted({row[of] for row in found})) for mark, of in (
         ("codecs", "codec"), ("shapes", "shape"))}] if found else [] for found in (owned, listed))
@@ -53,6 +53,7 @@ def crate_parts(crate, families):
                            if row["inner"])} for it in families if it.layered],
             "inner": [vars(it) for it in families if it.inner],
             "inner in own": [vars(it) for it in families if it.name in among],
+            "inner in any own": [{}] * bool(among),
             "nesting": nesting, "listing": has["inner"], "owning": has["own"],
             "codecs": codecs, "listed codecs": listed,
             "lists": [row for row in rows if row["inner"]], "payloads": owned}.items()}})

@@ -65,7 +65,7 @@ IMPORT = re.compile(r"^((?:ghost )?use [^\s{]+)(\.|::)\{([^}]*)\}(;?)\n", re.MUL
 def tidy(text):
     """A text without imports of what it does not name."""
     code = IMPORT.sub("", re.sub(r"(?m)(//|^--).*", "", text))
-    words = {*re.findall(r"[^\s(),;]+", code), *re.findall(r"\w+", code)}
+    words = {*re.findall(r"[^\s(),;]+", code), *re.findall(r"(?<![\w.])\w+", code)}
 
     def kept(mark):
         names = [name for name in re.findall(r"[^\s,]+", mark[3])

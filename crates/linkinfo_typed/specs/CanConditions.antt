@@ -5,7 +5,6 @@ use Rattle.std.specs.Prelude.{◌≡◌, ◌↔◌, ◌<◌, ◌^◌, Bool, true
 use Rattle.std.specs.List.{AllByRecursion}
 use Rattle.std.proofs.Common.{subst}
 use Rattle.nla_frame.specs.Attribute.{masked}
-use Rattle.linkinfo_shapes.specs.Shapes.{Holds}
 use Rattle.linkinfo_table.specs.Conditions.{IsUnknown, are_typed, unknown_after, unknown_label}
 use Rattle.linkinfo_table.specs.FamilyRows.{row_of, table_row}
 use Rattle.linkinfo_table.specs.Rows.{WellFormed}

@@ -23,7 +23,8 @@ use Rattle.linkinfo_payloads.specs.Payloads.{
   v6_list_codec,
 }
 -- End: written by tables/generate.
-use Rattle.linkinfo_typed.specs.NestedLists.{headers_in}
+-- Begin: written by tables/generate from tables/families (counted).
+-- End: written by tables/generate.
 use Rattle.linkinfo_typed.specs.PayloadRows.{holds_payload}
 use Rattle.linkinfo_typed.proofs.laws.payloads_inside.Goals as goal
 -- Begin: written by tables/generate from tables/families (members).
