@@ -328,8 +328,7 @@ fn address_len<A: Address>(items: &[A]) -> Option<usize>
 {
     let mut total: usize = 0;
     for item in items {
-        item.wide();
-        total = total.checked_add(4 + A::WIDTH)?;
+        total = total.checked_add(4 + item.byte_len())?;
     }
     fitting(total)
 }
@@ -346,7 +345,6 @@ fn address_emit<A: Address>(items: &[A], buffer: &mut [u8]) -> usize
     let mut place: usize = 0;
     let mut index: u16 = 0;
     for item in items {
-        item.wide();
         place += write_element(*item, index, &mut buffer[place..]);
         index += 1;
     }
@@ -356,11 +354,13 @@ fn address_emit<A: Address>(items: &[A], buffer: &mut [u8]) -> usize
 /// Writes an address as an attribute of the type at the front of the buffer, and returns its
 /// length. The bytes after it stay unchanged. Requires that the buffer has at least as many bytes.
 fn write_element<A: Address>(item: A, kind: u16, buffer: &mut [u8]) -> usize
-    requires { 4 + A.WIDTH ≤ length buffer.old }
-    ensures { WritesAttribute (record { kind = kind; value = A.bytes_of item })
+    requires { 4 + length (A.bytes_of item) ≤ length buffer.old }
+    ensures written { WritesAttribute (record { kind = kind; value = A.bytes_of item })
         buffer.old buffer.new result }
+    ensures width { result ≡ 4 + A.WIDTH }
 {
-    let len = item.write(&mut buffer[4..]);
+    let len = item.byte_len();
+    item.write(&mut buffer[4..]);
     write_frame(buffer, kind, len);
     4 + len
 }

@@ -41,9 +41,11 @@ pub trait Fields: Copy {
         ensures written { Writes (bytes_of self) buffer.old buffer.new result }
         ensures width { result ≡ Self.width };
 
-    /// How many bytes the fields have. This is a fact for proofs, a function without code.
-    fn are_wide(self)
-        ensures { length (bytes_of self) ≡ width };
+    /// The number of bytes of the fields. Requires that there are at most 65531.
+    fn fields_len(self) -> usize
+        requires { width ≤ 65531 }
+        ensures bytes { result ≡ length (bytes_of self) }
+        ensures width { result ≡ Self.width };
 
     ghost fixed: { IsFixed width value_of bytes_of holds };
 }
@@ -68,8 +70,8 @@ impl<A: Fixed> Fields for A {
         self.write(buffer)
     }
 
-    fn are_wide(self) {
-        self.wide();
+    fn fields_len(self) -> usize {
+        self.byte_len()
     }
 }
 
@@ -96,9 +98,8 @@ impl<A: Fields, B: Fields> Fields for (A, B) {
         width + second.write_front(&mut buffer[width..])
     }
 
-    fn are_wide(self) {
+    fn fields_len(self) -> usize {
         let (first, second) = self;
-        first.are_wide();
-        second.are_wide();
+        first.fields_len() + second.fields_len()
     }
 }

@@ -50,9 +50,10 @@ pub trait Fixed: Copy {
         ensures written { Writes (bytes_of self) buffer.old buffer.new result }
         ensures width { result ≡ WIDTH };
 
-    /// A value has `WIDTH` bytes. This is a fact for proofs, a function without code.
-    fn wide(self)
-        ensures { length (bytes_of self) ≡ WIDTH };
+    /// The number of bytes of the value, which is `WIDTH`.
+    fn byte_len(self) -> usize
+        ensures bytes { result ≡ length (bytes_of self) }
+        ensures width { result ≡ WIDTH };
 
     ghost fixed: { IsFixed WIDTH value_of bytes_of holds };
 }
@@ -97,7 +98,9 @@ impl Fixed for u16 {
         2
     }
 
-    fn wide(self) {}
+    fn byte_len(self) -> usize {
+        2
+    }
 }
 
 /// A little-endian number of four bytes.
@@ -126,7 +129,9 @@ impl Fixed for u32 {
         4
     }
 
-    fn wide(self) {}
+    fn byte_len(self) -> usize {
+        4
+    }
 }
 
 impl Fixed for BigEndian {
@@ -154,7 +159,9 @@ impl Fixed for BigEndian {
         2
     }
 
-    fn wide(self) {}
+    fn byte_len(self) -> usize {
+        2
+    }
 }
 
 impl<const N: usize> Fixed for [u8; N] {
@@ -181,7 +188,9 @@ impl<const N: usize> Fixed for [u8; N] {
         write_bytes(&self, buffer)
     }
 
-    fn wide(self) {}
+    fn byte_len(self) -> usize {
+        N
+    }
 }
 
 /// An IPv4 address in network byte order.
@@ -209,7 +218,9 @@ impl Fixed for Ipv4Addr {
         write_bytes(&self.octets(), buffer)
     }
 
-    fn wide(self) {}
+    fn byte_len(self) -> usize {
+        4
+    }
 }
 
 /// An IPv6 address in network byte order.
@@ -237,7 +248,7 @@ impl Fixed for Ipv6Addr {
         write_bytes(&self.octets(), buffer)
     }
 
-    fn wide(self) {
-        let _octets = self.octets();
+    fn byte_len(self) -> usize {
+        self.octets().len()
     }
 }

@@ -81,13 +81,13 @@ impl<R: Record> ExactPayload for R {
     }
 
     fn fit_payload(&self) -> Option<usize> {
-        self.to_fields().are_wide();
-        Some(R::LEN)
+        Some(self.to_fields().fields_len())
     }
 
     fn to_payload(&self, buffer: &mut [u8]) -> usize {
         let fields = self.to_fields();
-        fields.are_wide();
-        fields.write_front(buffer)
+        let len = fields.fields_len();
+        fields.write_front(buffer);
+        len
     }
 }

@@ -19,7 +19,6 @@ write_element-place-requires g c =
       ap length on,
       length-list_string-cons (record { kind = k; value = bytes x })
           (numbered bytes (k + 1) (drop (i + 1) xs)),
-      c.wide.ensures,
       c.loop-item.invariant.so_far.place,
       c.requires.room,
       c.loop-item.auto.buffer,
@@ -35,7 +34,7 @@ loop-item-preserved g c =
     let a : Attribute = record { kind = k; value = bytes x } in
     let buffer = c.loop-item.buffer in
     let at = c.loop-item.place in
-    let wrote = c.write_element-place.ensures in
+    let wrote = c.write_element-place.ensures.written in
     let tail = take (length buffer - at) (drop at buffer) in
     record {
       so_far =
@@ -51,8 +50,7 @@ loop-item-preserved g c =
           omega (
             arith,
             c.loop-item.invariant.few,
-            wrote.taken,
-            c.wide.ensures,
+            c.write_element-place.ensures.width,
             g.met.A.Address.some,
           );
     }
