@@ -581,8 +581,20 @@ enum linkinfo_shape {
   LINKINFO_SHAPE_RAW = 23,       /* any bytes; not returned */
   LINKINFO_SHAPE_SELF_LIST = 24, /* a list of attributes of the same family */
   LINKINFO_SHAPE_PEER = 25,      /* the peer of a veth, vxcan or netkit */
-  LINKINFO_SHAPE_NESTED = 26     /* a list of attributes of another family; not
-                                    returned yet */
+  /* those of attributes that have types in the typed layer alone are not
+     returned yet */
+  LINKINFO_SHAPE_NESTED = 26,    /* a list of attributes of another family */
+  LINKINFO_SHAPE_BRIDGE_ID = 27, /* the identifier of a bridge, 8 bytes */
+  LINKINFO_SHAPE_LE_PAIR16 = 28, /* two little-endian numbers of two bytes */
+  LINKINFO_SHAPE_LE32X8 = 29,    /* eight little-endian numbers of four */
+  LINKINFO_SHAPE_CAN_BIT_TIMING_CONST = 30, /* a name of 16 bytes, then eight
+                                               such numbers */
+  LINKINFO_SHAPE_LE16S = 31,     /* any number of little-endian numbers of two
+                                    bytes */
+  LINKINFO_SHAPE_LE32S = 32,     /* of four */
+  LINKINFO_SHAPE_V4_LIST = 33,   /* a list of attributes of any types, each an
+                                    IPv4 address */
+  LINKINFO_SHAPE_V6_LIST = 34    /* an IPv6 address */
 };
 
 /* An attribute in data or port data. */

@@ -22,7 +22,11 @@ static const char *const names[] = {
     [LINKINFO_SHAPE_FLAG_PAIR] = "FlagPair",  [LINKINFO_SHAPE_EMPTY_OR_BYTE] = "EmptyOrByte",
     [LINKINFO_SHAPE_SCRUB] = "Scrub",         [LINKINFO_SHAPE_RAW] = "Raw",
     [LINKINFO_SHAPE_SELF_LIST] = "SelfList",  [LINKINFO_SHAPE_PEER] = "Peer",
-    [LINKINFO_SHAPE_NESTED] = "Nested",
+    [LINKINFO_SHAPE_NESTED] = "Nested",       [LINKINFO_SHAPE_BRIDGE_ID] = "BridgeId",
+    [LINKINFO_SHAPE_LE_PAIR16] = "LePair16",  [LINKINFO_SHAPE_LE32X8] = "Le32x8",
+    [LINKINFO_SHAPE_CAN_BIT_TIMING_CONST] = "CanBitTimingConst",
+    [LINKINFO_SHAPE_LE16S] = "Le16s",         [LINKINFO_SHAPE_LE32S] = "Le32s",
+    [LINKINFO_SHAPE_V4_LIST] = "V4List",      [LINKINFO_SHAPE_V6_LIST] = "V6List",
 };
 enum { SHAPES = sizeof names / sizeof *names };
 
@@ -128,8 +132,9 @@ int main(void) {
   }
   int status = kind_count == known_kinds() ? 0 : 1;
   for (unsigned number = 0; number < SHAPES; number++) {
-    /* no family has a row of the shape Raw, and none of those that C reads one of Nested */
-    bool has_none = number == LINKINFO_SHAPE_RAW || number == LINKINFO_SHAPE_NESTED;
+    /* no family has a row of the shape Raw, and none of those that C reads one of Nested, or of
+     * those after it */
+    bool has_none = number == LINKINFO_SHAPE_RAW || number >= LINKINFO_SHAPE_NESTED;
     if ((seen[number] == 0) != has_none) {
       fprintf(stderr, "shape %s: %u rows\n", names[number], seen[number]);
       status = 1;

@@ -127,8 +127,16 @@ static inline struct linkinfo_value value_by_rules(uint16_t shape, const uint8_t
     return pair_value(number(payload, 4, 0), number(payload + 4, 4, 0));
   case LINKINFO_SHAPE_SELF_LIST:
   case LINKINFO_SHAPE_NESTED:
+  case LINKINFO_SHAPE_V4_LIST:
+  case LINKINFO_SHAPE_V6_LIST:
     return bytes_value(LINKINFO_VALUE_LIST, length);
   case LINKINFO_SHAPE_PEER:
+  case LINKINFO_SHAPE_BRIDGE_ID:
+  case LINKINFO_SHAPE_LE_PAIR16:
+  case LINKINFO_SHAPE_LE32X8:
+  case LINKINFO_SHAPE_CAN_BIT_TIMING_CONST:
+  case LINKINFO_SHAPE_LE16S:
+  case LINKINFO_SHAPE_LE32S:
     return bytes_value(LINKINFO_VALUE_BYTES, length);
   default:
     return none;

@@ -22,9 +22,10 @@ UNSEEN = re.compile(r"^\s*(//.*|#\[inline(\(\w+\))?\])\n", re.M)
 
 
 def words_of(kind):
-    """A type as the check writes it in the name of an impl: `&'a Vec<u8>` is RefVecU8. Lifetimes
-    and type parameters are left out."""
+    """A type as the check writes it in the name of an impl: `&'a Vec<u8>` is RefVecU8, and
+    `[u8; N]` ArrayU8. Lifetimes and type parameters are left out."""
     kind = re.sub(r"'\w+", "", kind).replace("&", " Ref ")
+    kind = re.sub(r"\[([^;\]]+);[^\]]*\]", r" Array \1 ", kind)
     words = [it.split("::")[-1] for it in re.findall(r"[\w:]+", kind)]
     return "".join(it[0].upper() + it[1:] for it in words if not re.fullmatch(r"[A-Z]|mut|dyn", it))
 

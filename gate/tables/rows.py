@@ -5,6 +5,9 @@ import re
 
 COLUMNS = ["type", "name", "variant", "layout", "member", "shown as"]
 NUMBER = re.compile(r"0x[\dA-Fa-f_]+|\d+")
+# The layouts of payloads that have a type of their own.
+OWN_TYPES = {"Nested", "BridgeId", "LePair16", "Le32x8", "CanBitTimingConst", "Le16s", "Le32s",
+             "V4List", "V6List"}
 
 
 class Bad(Exception):
@@ -24,6 +27,11 @@ class Row:
     member: str
     format: str
     inner: str = ""     # the family of the attributes in a list, and `+8000`
+
+    @property
+    def has_own_type(self):
+        """Whether its payload has a type of its own."""
+        return self.layout in OWN_TYPES
 
 
 @dataclasses.dataclass(frozen=True)

@@ -28,10 +28,11 @@ def shapes(families, _values):
 
 
 def layered(families, _values):
-    """The rows of specs of the typed layer, by family: those of lists are before the others."""
+    """The rows of specs of the typed layer, by family: those with payloads of types of their own
+    are before the others."""
     found = {}
     for family in (it for it in families if it.layered):
-        rows = sorted(typed(family), key=lambda row: not row.inner)
+        rows = sorted(typed(family), key=lambda row: not row.has_own_type)
         found[family.names[0]] = [(row.number, f"{row.layout} {row.inner}".split(" +")[0].rstrip(),
                                    row.variants) for row in rows]
     return found
@@ -47,7 +48,7 @@ def names(families, _values):
 
 def shown(family, kind):
     """The rows that are shown of a kind."""
-    return [(row.number, row.member, "Raw" if row.inner else row.layout, row.format)
+    return [(row.number, row.member, "Raw" if row.has_own_type else row.layout, row.format)
             for row in family.of_kind(kind) if row.member]
 
 

@@ -2,6 +2,7 @@
 
 use crate::layers::messages::{Capture, LinkMessages};
 use crate::layers::nla_frame::NlasIterator;
+use crate::layers::payloads::{Addresses, Numbers};
 use crate::{
     AllocError, Bytes, DataLayer, DecodeError, ErrorIn, InfoDataOf, InfoKind, InfoPortDataOf,
     InfoPortKind, LinkInfoOf, LinkInfoWalk, LinkLayer, Nlas, Text, ToVecError, VecLinkInfoOf,
@@ -129,71 +130,80 @@ impl<P: LinkLayer> Deref for VecLinkInfoOf<P> {
     }
 }
 
-/// The list of the items. It aborts where memory runs out, as `Vec` does.
-impl<T> FromIterator<T> for Nlas<T> {
-    fn from_iter<I: IntoIterator<Item = T>>(items: I) -> Nlas<T> {
-        Nlas::new(Vec::from_iter(items))
-    }
+/// What a list has that owns a `Vec` of its items.
+macro_rules! list_conversions {
+    ($list:ident) => {
+        /// The list of the items. It aborts where memory runs out, as `Vec` does.
+        impl<T> FromIterator<T> for $list<T> {
+            fn from_iter<I: IntoIterator<Item = T>>(items: I) -> $list<T> {
+                $list::new(Vec::from_iter(items))
+            }
+        }
+
+        /// The list of the items. It aborts where memory runs out, as `Vec` does.
+        impl<T, const N: usize> From<[T; N]> for $list<T> {
+            fn from(items: [T; N]) -> $list<T> {
+                $list::new(Vec::from(items))
+            }
+        }
+
+        /// The items, in order. The `Vec` is moved, not copied.
+        impl<T> From<$list<T>> for Vec<T> {
+            fn from(list: $list<T>) -> Vec<T> {
+                list.into_vec()
+            }
+        }
+
+        /// The list without items. Does not allocate.
+        impl<T> Default for $list<T> {
+            fn default() -> $list<T> {
+                $list::new(Vec::new())
+            }
+        }
+
+        /// Adds the items at the end. It aborts where memory runs out, as `Vec` does.
+        impl<T> Extend<T> for $list<T> {
+            fn extend<I: IntoIterator<Item = T>>(&mut self, items: I) {
+                let mut all = core::mem::take(self).into_vec();
+                all.extend(items);
+                *self = $list::new(all);
+            }
+        }
+
+        /// By the items, as slices are hashed.
+        impl<T: Hash> Hash for $list<T> {
+            fn hash<H: Hasher>(&self, state: &mut H) {
+                self.as_slice().hash(state);
+            }
+        }
+
+        /// By the items, as slices are ordered.
+        impl<T: PartialOrd> PartialOrd for $list<T> {
+            fn partial_cmp(&self, other: &$list<T>) -> Option<Ordering> {
+                self.as_slice().partial_cmp(other.as_slice())
+            }
+        }
+
+        /// By the items, as slices are ordered.
+        impl<T: Ord> Ord for $list<T> {
+            fn cmp(&self, other: &$list<T>) -> Ordering {
+                self.as_slice().cmp(other.as_slice())
+            }
+        }
+
+        impl<T> Deref for $list<T> {
+            type Target = [T];
+
+            fn deref(&self) -> &[T] {
+                self.as_slice()
+            }
+        }
+    };
 }
 
-/// The list of the items. It aborts where memory runs out, as `Vec` does.
-impl<T, const N: usize> From<[T; N]> for Nlas<T> {
-    fn from(items: [T; N]) -> Nlas<T> {
-        Nlas::new(Vec::from(items))
-    }
-}
-
-/// The items, in order. The `Vec` is moved, not copied.
-impl<T> From<Nlas<T>> for Vec<T> {
-    fn from(list: Nlas<T>) -> Vec<T> {
-        list.into_vec()
-    }
-}
-
-/// The list without items. Does not allocate.
-impl<T> Default for Nlas<T> {
-    fn default() -> Nlas<T> {
-        Nlas::new(Vec::new())
-    }
-}
-
-/// Adds the items at the end. It aborts where memory runs out, as `Vec` does.
-impl<T> Extend<T> for Nlas<T> {
-    fn extend<I: IntoIterator<Item = T>>(&mut self, items: I) {
-        let mut all = core::mem::take(self).into_vec();
-        all.extend(items);
-        *self = Nlas::new(all);
-    }
-}
-
-/// By the items, as slices are hashed.
-impl<T: Hash> Hash for Nlas<T> {
-    fn hash<H: Hasher>(&self, state: &mut H) {
-        self.as_slice().hash(state);
-    }
-}
-
-/// By the items, as slices are ordered.
-impl<T: PartialOrd> PartialOrd for Nlas<T> {
-    fn partial_cmp(&self, other: &Nlas<T>) -> Option<Ordering> {
-        self.as_slice().partial_cmp(other.as_slice())
-    }
-}
-
-/// By the items, as slices are ordered.
-impl<T: Ord> Ord for Nlas<T> {
-    fn cmp(&self, other: &Nlas<T>) -> Ordering {
-        self.as_slice().cmp(other.as_slice())
-    }
-}
-
-impl<T> Deref for Nlas<T> {
-    type Target = [T];
-
-    fn deref(&self) -> &[T] {
-        self.as_slice()
-    }
-}
+list_conversions!(Nlas);
+list_conversions!(Numbers);
+list_conversions!(Addresses);
 
 /// A copy of the text. It aborts where memory runs out; [`Text::copy_of`] reports it.
 impl From<&str> for Text {

@@ -11,10 +11,12 @@
 #![allow(
     unused_imports,
     unused_variables,
+    clippy::extra_unused_type_parameters,
     reason = "of a source whose contracts were deleted, some names were used in those alone"
 )]
 #![allow(
     clippy::derivable_impls,
+    clippy::explicit_counter_loop,
     clippy::manual_map,
     clippy::module_inception,
     clippy::needless_lifetimes,
@@ -29,6 +31,7 @@ pub mod messages;
 pub mod names;
 pub mod nla_frame;
 pub mod numbers;
+pub mod payloads;
 pub mod peers;
 pub mod shapes;
 pub mod table;

@@ -6,8 +6,9 @@ from . import form
 from .text import camel, listed, snake
 
 ORDER = ["code", "family", "table", "what"]
-LAYOUTS = ["layout", "field", "variable", "read", "exact", "rejects"]
+LAYOUTS = ["layout", "field", "variable", "read", "exact", "rejects", "codec"]
 NEST = "Nested"       # the layout of a list of another family
+LISTS = (NEST, "V4List", "V6List")      # the layouts that can be written with NLA_F_NESTED
 COLUMNS = ["type", "name", "variant", "layout", "member", "shown as"]
 KEYS = ["family", "links", "names", "twin", "tables", "header", "about", "note", "alias", "rows"]
 INNER = ("inner ", "inner set ")    # the families of lists inside others, and those that are sets
@@ -19,16 +20,19 @@ FAMILY = re.compile(
 
 # What follows from the layout of a payload, a `Shape`: the type of the variant's field, if it has
 # one; the datum's variable in specs; the call that gives the datum, and its clause; the entry of
-# `ExactEq`; a payload that is rejected, or how many zeros are, and the cause; how the doc comment
-# of a row ends; and which data are well formed, of the variable, or empty if all are.
+# `ExactEq`; a payload that is rejected, or how many zeros are, and the cause; how definitions of
+# linkinfo_payloads begin, if the payload is a value of a type of its own and no list of a family;
+# how the doc comment of a row ends; and which data are well formed, of the variable, or empty if
+# all are.
 Layout = collections.namedtuple("Layout", [
-    "name", "field", "variable", "read", "exact", "rejects", "tail", "condition"])
+    "name", "field", "variable", "read", "exact", "rejects", "codec", "tail", "condition"])
 
 
 class Row:
     """An attribute. `under` is the kind of link that alone has it, else empty; `kernel` the
     kernel's name; `value` the type that the number is made into, or none. `variants` are none if it
-    is shown, and otherwise opaque; two if an empty payload has one."""
+    is shown, and otherwise opaque; two if an empty payload has one. `payload` is whether its
+    payload is a value of a type of its own, and `inner` the family if that is a list of one."""
 
     def __init__(self, row, prefix, layouts, values):
         self.line, self.docs = row.line, row.docs
@@ -38,13 +42,14 @@ class Row:
         self.flagged = value[-1:] == ["+8000"] and bool(value.pop())
         if self.shape == NEST and not self.inner:
             raise self.line.bad(f"{NEST} without a family")
-        if self.flagged and not self.inner:
-            raise self.line.bad("+8000 is only of a list of another family")
+        if self.flagged and self.shape not in LISTS:
+            raise self.line.bad(f"+8000 is only of {', '.join(LISTS)}")
         if not number.isdecimal() or int(number) >= 1 << 14:
             raise self.line.bad(f"{number or '-'} is no type")
         if self.shape not in layouts:
             raise self.line.bad(f"{self.shape} is no layout")
         self.number, self.layout = int(number), layouts[self.shape]
+        self.payload = bool(self.inner or self.layout.codec)
         self.value = values.get(value[-1]) if value[:1] == ["as"] and len(value) == 2 else None
         if value and not self.value:
             raise self.line.bad(f"{' '.join(value)} is not `as` and a type of tables/numbers")

@@ -35,16 +35,28 @@ def crate_parts(crate, families):
         given[mark] = ", ".join(sorted(f"{it.snake}_{mark}" for it in families))
     lists = {it.name: [
         {**vars(it), **row, "kind": str(int(row["number"]) + 0x8000 * row["flagged"])}
-        for row in of_rows(it, True) if row["inner"]] for it in families if it.layered}
-    nesting = [it for it in families if lists.get(it.name)]
+        for row in of_rows(it, True) if row["payload"]] for it in families if it.layered}
+    nesting = [{**vars(it), "values": lists[it.name]} for it in families if lists.get(it.name)]
+    rows = [row for it in nesting for row in it["values"]]
+    owned = [row for row in rows if row["own"]]
+    has = {name: [it for it in nesting if any(row[name] for row in it["values"])]
+           for name in ("inner", "own")}
+    among = {row["inner"] for it in has["own"] for row in it["values"]} - {""}
+    listed = [row for it in has["inner"] for row in it["values"] if row["own"]]
+    codecs, listed = ([{mark: ", ".join(sorted({row[of] for row in found})) for mark, of in (
+        ("codecs", "codec"), ("shapes", "shape"))}] if found else [] for found in (owned, listed))
     return parts("crate", {"crate": [(given, [given])], **{
-        name: [({"crate": crate}, rows)] if lists else [] for name, rows in {
-            "typed": [{**vars(it), "inside": "".join(
-                f"family.{row['inner']} ∷ " for row in lists[it.name])} for it in families
-                      if it.layered],
+        name: [({"crate": crate}, found)] if lists else [] for name, found in {
+            "typed": [{**vars(it), "is_flat": not lists[it.name], "nests": bool(lists[it.name]),
+                       "inside": "".join(
+                           f"family.{row['inner']} ∷ " for row in lists[it.name]
+                           if row["inner"])} for it in families if it.layered],
             "inner": [vars(it) for it in families if it.inner],
-            "nesting": [{**vars(it), "values": lists[it.name]} for it in nesting],
-            "lists": [row for it in nesting for row in lists[it.name]]}.items()}})
+            "inner in own": [vars(it) for it in families if it.name in among],
+            "inner in any own": [{}] * bool(among),
+            "nesting": nesting, "listing": has["inner"], "owning": has["own"],
+            "codecs": codecs, "listed codecs": listed,
+            "lists": [row for row in rows if row["inner"]], "payloads": owned}.items()}})
 
 
 def outputs(tables):

@@ -1,12 +1,17 @@
 """What templates/family has in its marks: of a flat family, and of each of its rows."""
+import re
+
 from .families import NEST
-from .text import pairs, snake, spelled
+from .text import CALL, MOST, broken, fill, pairs, snake, spelled
 
 SEARCHED = 10   # up to so many variants, `ExactEq` is found by a search
 LONG = 8        # from so many rows on, what a label keeps is a line for each row
 KNOWN = {"number": "Decides-eqb", "truth": "booleans_Decides",
          "sets": "(λ a b. Prim.search rules)",
-         "pair": "(two_fields Decides-eqb Decides-eqb)"}
+         "pair": "(two_fields Decides-eqb Decides-eqb)",
+         "numbers": "(pointwise_decides Decides-eqb)"}
+CONTRACTS = {"[u8; 6]": "ArrayU86"}     # how names of contracts have a type
+ADDRESSES = {"ipv4_list": "Ipv4Addr", "ipv6_list": "Ipv6Addr"}      # of lists, by their entries
 HOW = {"number": " as ‹›", "reference": " as &‹›", "flags": " as flags ‹›",
        "pair": " by flags_of, pair_of", "sets": " by flags_of, pair_of",
        "scrub": " by scrub_of, is_by_default"}
@@ -25,11 +30,11 @@ def kept(row, marks):
 def keeps(rows):
     """What the labels keep."""
     proofs = [row["kept"] for row in rows]
-    if len(rows) >= LONG:
+    if len(rows) >= LONG or "\n" in pairs(proofs, "    ") and "\n" not in pairs(proofs):
         proofs = [it if it.endswith("_keeps") else f"({it})" for it in proofs]
         return f"\n    ({proofs[0]}" + "".join(f"\n    & {it}" for it in [*proofs[1:], "tt"]) + ")"
-    text = pairs(proofs, "    ")
-    return f" {pairs(proofs)}" if "\n" in text else f"\n    {text}"
+    text, apart = pairs(proofs, "    "), pairs(proofs)
+    return f" {apart}" if "\n" in text else f"\n    {text}"
 
 
 def stored(row, marks, seen):
@@ -61,6 +66,11 @@ def exact(row, at, lets, is_listed):
     if row.inner:
         field, decides, entry = row.inner, "(pointwise_decides {}_exact)", snake(row.inner)
         where = f"{row.inner_crate}.specs.contracts.{row.inner_module}"
+    elif entry in ADDRESSES:
+        field, decides = ADDRESSES[entry], "(pointwise_decides {}_exact)"
+    elif row.payload:
+        where = "linkinfo_payloads.specs.contracts.records"
+    field = CONTRACTS.get(field, field)
     is_new = is_listed and bool(field) and entry not in lets
     found = {"entry": entry, "decides": KNOWN.get(entry, decides.format(entry)),
              "law": is_new and entry not in KNOWN and f"{where}.{field}ExactEq.TheImpl.Laws",
@@ -75,13 +85,21 @@ def of_row(row):
     """The marks of a row that need nothing else."""
     field, either = row.field, spelled(row.variant)
     bits, bare = row.value.bits if row.value else 0, row.shape == "Mark"
-    simple = not (row.value or row.two or bare or row.inner)
+    simple = not (row.value or row.two or bare or row.payload)
     kind = f"written_kind true {row.number}" if row.flagged else str(row.number)
+    it, own = snake(row.inner), row.layout.codec
     return {
         **vars(row), "number": str(row.number), "held": f"({field})" if field else "",
-        "table": not row.inner, "in_code": row.shape + f"(Family::{row.inner})" * bool(row.inner),
+        "table": not row.payload,
+        "in_code": row.shape + f"(Family::{row.inner})" * bool(row.inner),
         "in_specs": f"{row.shape} family.{row.inner}" if row.inner else row.shape,
-        "spelled": "custom" if row.shape in ("Peer", "SelfList", NEST) else spelled(row.shape),
+        "term": f"({row.shape} family.{row.inner})" if row.inner else row.shape,
+        "own": own, "codec": f"(list_of {it}_members)" if row.inner else f"{own}_codec",
+        "lawful": f"(list_of_is_codec {it}_members {it}_lawful)" if row.inner else
+        f"{own}_payload.codec",
+        "headers": f"headers_in {it}_members" if row.inner else f"{own}_codec.headers",
+        "spelled": "custom" if row.payload or row.shape in ("Peer", "SelfList") else
+        spelled(row.shape),
         "how": f" or {row.variants[0]}" if row.two else HOW.get(row.made, "").replace("‹›", field),
         "doc": row.doc(len(row.variants) - 1), "first_doc": row.doc(0), "empty": row.variants[0],
         "either": either, "short": either.split("_")[0],
@@ -93,8 +111,10 @@ def of_row(row):
         **{f"inner_{it}": row.inner and getattr(row, f"inner_{it}") for it in
            ("spec", "module", "crate")},
         "made_from": row.made == "flags" or row.numbered, "variable": row.layout.variable,
-        "condition": row.layout.condition, "said": simple and row.layout.condition,
-        "arm": not row.two, "plain": not row.under, "names": ", ".join(row.variants)}
+        "condition": row.layout.condition,
+        "said": (simple or bool(own)) and row.layout.condition,
+        "arm": not (row.two or row.payload), "plain": not row.under,
+        "names": ", ".join(row.variants)}
 
 
 def of_rows(family, is_listed):
@@ -131,28 +151,36 @@ def reads(family, shapes):
     if NEST in shapes:
         said += " A list is rejected with the first error in it: that of an attribute inside, or "
         said += "`(Frame, 0, Header)`."
+    if shapes & {"V4List", "V6List"}:
+        said += " So is a list of addresses, in which an attribute of another length has the error "
+        said += f"`({family.name}, type, Length)` with the type of the list."
     return said + "".join(
         f" A name that is not UTF-8 is rejected as `({family.name}, {row.number}, Utf8)`."
         for row in family.typed if row.shape == "Name")
 
 
-def chained(items, last):
-    """Pairs of a list, the first item outside: (A, (B, last))."""
-    text = last
-    for item in reversed(items):
-        text = item.replace("..", text)
-    return text
+def listed_types(rows):
+    """The types of rows as a list: a tree of pairs, of which each item has no kind."""
+    if not rows:
+        return "", "()"
+    return ("", f"{rows[0]['variant']}Row<()>"), listed_types(rows[1:])
+
+
+def cons(items, last="[]"):
+    """A list in specs, in lines that begin with four spaces but for the first."""
+    return fill([*(f"{item} ∷" for item in items), last], "    ", MOST - len(") n (")).strip()
 
 
 def owned(rows):
     """Whether a type `n` is that of one of the rows."""
-    return chained([f"((n == {row['number']}) || ..)" for row in rows], "false")
+    return f"is_among ({cons(row['number'] for row in rows)}) n" if rows else "false"
 
 
-def beside(rows, table):
+def beside(rows, table, indent):
     """That the type of an attribute `d` is that of none of the rows, nor of a row of a table."""
-    text = chained([f"(masked d.kind ≢ {row['number']}) × (..)" for row in rows], "IsUnknown ‹› d")
-    return text.replace("(IsUnknown ‹› d)", "IsUnknown ‹› d").replace("‹›", table)
+    unknown = f"IsUnknown {table} d"
+    numbers = cons(row["number"] for row in rows)
+    return f"IsBeside ({numbers}) (masked d.kind) ¦\n{indent}({unknown})" if rows else unknown
 
 
 def chain(family, inner):
@@ -161,8 +189,8 @@ def chain(family, inner):
     for row in reversed(inner):
         name = f"{its}_from_{row['either']}"
         text += (f"abbrev pub {name} : ℕ → FamilyRow {family.type}\n{name} n =\n    with_row "
-                 f"{row['number']} ({row['in_specs']}) {row['flag']} (list_of {row['inner_it']}_"
-                 f"members)\n    (λ xs. {row['variant']} xs) {rest} n\n\n")
+                 f"{row['number']} {row['term']} {row['flag']} {row['codec']}\n"
+                 f"    (λ x. {row['variant']} x) {rest} n\n\n")
         rest = name
     return text.rstrip("\n") + "\n" * bool(text)
 
@@ -175,27 +203,35 @@ def custom(family, inner):
         later = inner[at + 1:]
         row |= {"of_types": "e" if at else "h", "others": "e" if later else "_",
                 "rest": suffixes[at + 1] if later else f"(table_row {its}_plain)",
-                "rest_owned": owned(later), "rest_beside": beside(later, f"{its}_plain"),
-                "rest_shapes": "".join(
-                    f"({it['number']}, {it['in_specs']}) ∷ " for it in later)
-                + f"without_labels {its}_plain"}
-    inside = dict.fromkeys((row["inner_it"], row["inner_spec"]) for row in inner)
+                "rest_owned": f"({owned(later)})" if later else "false",
+                "rest_beside": beside(later, f"{its}_plain", " " * 6),
+                "rest_shapes": cons((f"({it['number']}, {it['in_specs']})" for it in later),
+                                    f"without_labels {its}_plain")}
+    lists = [row for row in inner if row["inner"]]
+    inside = dict.fromkeys((row["inner_it"], row["inner_spec"]) for row in lists)
+    owns = sorted({row["own"] for row in inner} - {""})
+    types = sorted({re.match(r"\w+", row["field"])[0] for row in inner if row["own"]})
     return {
         "nested": bool(inner), "flat": not inner, "is_inner": family.inner,
         "is_set": str(family.is_set).lower(),
         "of_family": bool(inner) or family.inner, "inner_types": "\n".join(
             f"use crate::{module}::{name};" for module, name in dict.fromkeys(
-                (row["inner_module"], row["inner"]) for row in inner)),
+                (row["inner_module"], row["inner"]) for row in lists)),
+        "has_lists": bool(lists), "owns": bool(owns), "own_types": ", ".join(types),
+        "own_codecs": ", ".join(f"{own}_{end}" for own in owns for end in ("codec", "payload")),
+        "pointwise": any(row["inner"] or "<" in row["field"] for row in inner),
         "cloned": ", Clone" * bool(inner), "closing": ")" * len(inner),
         "plain_rows": f"{its}_plain" if inner else f"{its}_rows",
         "all_rows": f"{its}_rows" if inner else f"table_row {its}_rows",
+        "suits": f"({its}_suits c.args.decoded c.requires)" if inner else "c.requires",
         "own_variants": "".join(f"{row['variant']}, " for row in inner),
         "held": ", ".join(f"is_{row['either']}" for row in inner),
-        "custom": chained([f"({row['variant']}Row<()>, ..)" for row in inner], "()"),
+        "custom": broken(listed_types(inner), " " * 4, " " * 4, MOST - len("type Custom = ;"),
+                         CALL),
         "owned": owned(inner), "suffixes": ", ".join(suffixes), "chain": chain(family, inner),
         "first_rows": suffixes[0] if inner else "",
-        "is_held": chained([f"(is_{row['either']} x || ..)" for row in inner], "false"),
-        "beside": beside(inner, f"{its}_plain" if inner else f"{its}_rows"),
+        "is_held": f"is_held ({cons('is_' + row['either'] for row in inner)}) x",
+        "beside": beside(inner, f"{its}_plain" if inner else f"{its}_rows", " " * 4),
         "inner_rows": "".join(f"use {spec}.{name}.{{{it}_attribute, {it}_lawful, {it}_members}}\n"
                               for it, name in inside),
         "inner_conditions": "".join(
@@ -206,11 +242,11 @@ def custom(family, inner):
 def of_family(family):
     """The marks of a family, with those of its rows as `values`."""
     variants = [variant for row in family.typed for variant in row.variants]
-    is_listed = len(variants) + 1 > SEARCHED or any(row.inner for row in family.typed)
+    is_listed = len(variants) + 1 > SEARCHED or any(row.payload for row in family.typed)
     rows, shapes = of_rows(family, is_listed), dict.fromkeys(row.shape for row in family.typed)
     pair = next((value.name for value in family.values if value.made == "pair"), "")
     sets = next((row.value.name for row in family.typed if row.made == "sets"), "")
-    inner = [row for row in rows if row["inner"]]
+    inner = [row for row in rows if row["payload"]]
     either, entries = [row["either"] for row in rows if row["two"]], {row["entry"] for row in rows}
     plain = "plain" if inner else "rows"
     used = {value.name for value in family.values} | {pair.removeprefix("Info")}

@@ -43,8 +43,10 @@ def pattern(path, name):
 
 def with_part(text, output):
     """A file's text with a part in its place."""
+    body = output.text.rstrip()
     text, count = pattern(output.path, re.escape(output.name)).subn(
-        lambda mark: f"{mark[1]}{output.text.rstrip()}\n{mark[4]}", text)
+        lambda mark: f"{mark[1]}{body}\n{mark[4]}" if body else mark[1] + mark[4].lstrip("\n"),
+        text)
     if count != 1:
         raise Missing(f"{output.path}: {count} parts from tables/{output.name}, and not one")
     return text

@@ -41,7 +41,7 @@ def view_marks(family):
                "head": fill(f"**{title}**: {said}".split()),
                "others": family.links if family.parts and constant != "TUNNEL" else "",
                "values": [{**vars(row), "number": str(row.number), "format": shown(row),
-                           "shape": "Raw" if row.inner else row.shape} for row in rows]}
+                           "shape": "Raw" if row.payload else row.shape} for row in rows]}
 
 
 def page_marks(family):
@@ -53,7 +53,7 @@ def page_marks(family):
         rows.append({
             "number": f"{row.number} under `{row.under}`" if row.under else str(row.number),
             "names": ", ".join(f"`{name}`" for name in names),
-            "shape": f"{row.shape} {row.inner}{' +8000' * row.flagged}".rstrip(),
+            "shape": " ".join(filter(None, [row.shape, row.inner, "+8000" * row.flagged])),
             "variants": f"{row.variants[0]} (empty), {row.variant} (one byte)" if row.two
             else row.variant, "made_into": f" {value} " if value else " "})
     return {"heading": listed([f"`{name}`" for name in family.families]), "values": rows,

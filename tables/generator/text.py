@@ -2,6 +2,7 @@
 import re
 
 MOST = 100
+CALL = 60       # how many characters rustfmt has on one line in a tuple
 
 
 def snake(name):
@@ -64,7 +65,7 @@ IMPORT = re.compile(r"^((?:ghost )?use [^\s{]+)(\.|::)\{([^}]*)\}(;?)\n", re.MUL
 def tidy(text):
     """A text without imports of what it does not name."""
     code = IMPORT.sub("", re.sub(r"(?m)(//|^--).*", "", text))
-    words = {*re.findall(r"[^\s(),;]+", code), *re.findall(r"\w+", code)}
+    words = {*re.findall(r"[^\s(),;]+", code), *re.findall(r"(?<![\w.])\w+", code)}
 
     def kept(mark):
         names = [name for name in re.findall(r"[^\s,]+", mark[3])
@@ -88,3 +89,26 @@ def pairs(items, indent=""):
 def fitting(*texts):
     """The first text of which all lines fit, or the last one."""
     return next((it for it in texts if max(map(len, it.splitlines())) <= MOST), texts[-1])
+
+
+def is_pair(node):
+    """Whether a node of a tree is a pair, and no item."""
+    return isinstance(node[0], tuple)
+
+
+def laid(node, between=", ", outer="()"):
+    """A tree on one line; the outer pair may be without parentheses."""
+    if not is_pair(node):
+        return node[1]
+    first, second = (laid(it, between) for it in node)
+    return f"{outer[0]}{first}{between}{second}{outer[1]}"
+
+
+def broken(node, indent, step, most, width=MOST):
+    """A tree, each pair on one line if it ends before `most` and its items have at most `width`
+    characters, else in lines of its own, which are indented by `step`."""
+    line = laid(node)
+    if not is_pair(node) or len(indent) + len(line) <= most and len(line) - 2 <= width:
+        return line
+    inner = [f"{indent + step}{broken(it, indent + step, step, MOST - 1, width)},\n" for it in node]
+    return f"(\n{''.join(inner)}{indent})"

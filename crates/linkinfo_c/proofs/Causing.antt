@@ -126,9 +126,7 @@ shape_causes shape.FlagPair p = length_causes 8 p _
 shape_causes shape.EmptyOrByte p = if_causes (length p == 0) _ _ (accepted _) (length_causes 1 p _)
 shape_causes shape.Scrub p = length_causes 4 p _
 shape_causes shape.Raw p = accepted _
-shape_causes shape.SelfList p = failed cause.Length tt
-shape_causes shape.Peer p = failed cause.Length tt
-shape_causes (shape.Nested family) p = failed cause.Length tt
+shape_causes _ p = failed cause.Length tt
 
 -- ---- attributes by rows
 

@@ -303,6 +303,14 @@ shape_code shape.Raw = 23
 shape_code shape.SelfList = 24
 shape_code shape.Peer = 25
 shape_code (shape.Nested family) = 26
+shape_code shape.BridgeId = 27
+shape_code shape.LePair16 = 28
+shape_code shape.Le32x8 = 29
+shape_code shape.CanBitTimingConst = 30
+shape_code shape.Le16s = 31
+shape_code shape.Le32s = 32
+shape_code shape.V4List = 33
+shape_code shape.V6List = 34
 
 -- the outcomes of a canonical encoding, `enum linkinfo_canon_status`
 

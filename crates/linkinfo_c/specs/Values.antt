@@ -20,7 +20,19 @@ use Rattle.linkinfo_numbers.specs.declared.tags.KindTag.{KindTag}
 use Rattle.linkinfo_shapes.specs.Data.{Value, truth, empty, text, v4, v6, mac, bytes}
 use Rattle.linkinfo_shapes.specs.Data.{number_in, pair_in, signed_in}
 use Rattle.linkinfo_shapes.specs.declared.shape.Shape.{Shape}
-use Rattle.linkinfo_shapes.specs.declared.shape.Shape.TheVariants.{Nested, SelfList, Peer}
+use Rattle.linkinfo_shapes.specs.declared.shape.Shape.TheVariants.{
+  BridgeId,
+  CanBitTimingConst,
+  Le16s,
+  Le32s,
+  Le32x8,
+  LePair16,
+  Nested,
+  Peer,
+  SelfList,
+  V4List,
+  V6List,
+}
 use Rattle.linkinfo_c.specs.declared.values.LinkinfoValue.{LinkinfoValue}
 use Rattle.linkinfo_c.specs.declared.values.LinkinfoValuedAttribute.{LinkinfoValuedAttribute}
 use Rattle.linkinfo_c.specs.Attributes.{datum_in, records_inside}
@@ -95,11 +107,20 @@ abbrev pub value_or_none : Option Value → LinkinfoValue
 value_or_none (Some value) = value_record value
 value_or_none None = no_value
 
--- the value of a payload: a peer is its bytes, and a list is a list whatever its attributes are
+-- the value of a payload: a peer, a record and an array are their bytes, and a list is a list
+-- whatever its attributes are
 abbrev pub value_in : Option Shape → List ℕ → LinkinfoValue
 value_in (Some SelfList) payload = list_record payload
 value_in (Some (Nested family)) payload = list_record payload
+value_in (Some V4List) payload = list_record payload
+value_in (Some V6List) payload = list_record payload
 value_in (Some Peer) payload = value_record (bytes payload)
+value_in (Some BridgeId) payload = value_record (bytes payload)
+value_in (Some LePair16) payload = value_record (bytes payload)
+value_in (Some Le32x8) payload = value_record (bytes payload)
+value_in (Some CanBitTimingConst) payload = value_record (bytes payload)
+value_in (Some Le16s) payload = value_record (bytes payload)
+value_in (Some Le32s) payload = value_record (bytes payload)
 value_in shape payload = value_or_none (datum_in shape payload)
 
 -- ---- attributes

@@ -244,5 +244,13 @@ pub(crate) fn shape_code(shape: Shape) -> u16
         Shape::SelfList => 24,
         Shape::Peer => 25,
         Shape::Nested(_) => 26,
+        Shape::BridgeId => 27,
+        Shape::LePair16 => 28,
+        Shape::Le32x8 => 29,
+        Shape::CanBitTimingConst => 30,
+        Shape::Le16s => 31,
+        Shape::Le32s => 32,
+        Shape::V4List => 33,
+        Shape::V6List => 34,
     }
 }

@@ -81,7 +81,7 @@ use Rattle.linkinfo_table.specs.FamilyRows.{
   find,
   plain_or_absent,
 }
-use Rattle.linkinfo_table.specs.ErrorMemory.{OwnIsOther}
+use Rattle.linkinfo_table.specs.ErrorMemory.{IsOwnCertain}
 use Rattle.linkinfo_table.specs.FamilyRowLaws.{owed, table_flat, table_owes}
 use Rattle.linkinfo_table.specs.RowLaws.{rows_quarter}
 use Rattle.linkinfo_table.specs.declared.decoded.Decoded.{Decoded}
@@ -355,7 +355,9 @@ module _ {X : Type 0} (f : Family) (other : DefaultNla → X) (attribute : X →
         peer = λ h. absurd (list_no_peer h);
         peer_typed = λ h. absurd (list_no_peer h);
         nest = λ inner h. absurd (list_no_nest inner h);
-        nest_typed = λ inner h. absurd (list_no_nest inner h);
+        exact = λ i. absurd i;
+        addresses = λ i. absurd i;
+        payload_typed = λ i. absurd i;
       }
         where
           go : (r : Result (List X) DecodeError) →
@@ -450,28 +452,28 @@ module _ {X : Type 0} (f : Family) (other : DefaultNla → X) (attribute : X →
             by false e = elsewhere_is c n e
 
   -- a list, which the family reads itself, has no shape of the table
-  flat_other : (r : Option (PlainRow X)) → OwnIsOther (plain_or_absent r)
-  flat_other (Some r) = tt
-  flat_other None = tt
+  flat_certain : (r : Option (PlainRow X)) → IsOwnCertain (plain_or_absent r)
+  flat_certain (Some r) = tt
+  flat_certain None = tt
 
-  pub nested_other : (c n : ℕ) → OwnIsOther (nested_rows f other attribute label plain c n)
-  nested_other c n = go (128 - c)
+  pub nested_certain : (c n : ℕ) → IsOwnCertain (nested_rows f other attribute label plain c n)
+  nested_certain c n = go (128 - c)
     where
       go : (levels : ℕ) →
-          OwnIsOther (level_rows f other attribute 5 label (λ k. table_row plain k) levels n)
+          IsOwnCertain (level_rows f other attribute 5 label (λ k. table_row plain k) levels n)
       go zero = by (n == 5)
         where
-          by : (b : Bool) → OwnIsOther (row_if b (Refuses cause.Depth) (table_row plain n))
+          by : (b : Bool) → IsOwnCertain (row_if b (Refuses cause.Depth) (table_row plain n))
           by true = tt
-          by false = flat_other (find plain n)
+          by false = flat_certain (find plain n)
       go (suc levels) = by (n == 5)
         where
           by : (b : Bool) →
-              OwnIsOther (row_if b (Custom shape.SelfList false
+              IsOwnCertain (row_if b (Custom shape.SelfList false
               (inner_codec f other attribute 5 label (λ k. table_row plain k) (λ k. level levels k))
               label) (table_row plain n))
-          by true = λ plain_list. plain_list
-          by false = flat_other (find plain n)
+          by true = λ p error single e. absurd single
+          by false = flat_certain (find plain n)
 
   -- the decoded content of an attribute without a list, and what a slot holds once its value is
   -- stored, by the rows of the table alone

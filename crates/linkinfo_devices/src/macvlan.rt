@@ -22,7 +22,7 @@ ghost use Rattle.linkinfo_devices.specs.Nested.{
   list_headers,
   list_means,
   list_needs_memory,
-  nested_other,
+  nested_certain,
 };
 ghost use Rattle.linkinfo_devices.specs.declared.macvlan.InfoMacVlan as macvlan;
 ghost use Rattle.linkinfo_table.specs.FamilyRows.{
@@ -269,7 +269,7 @@ impl LinkFamily for InfoMacVlan {
 
     ghost error_certain = { λ c a e.
         rows_certain family.MacVlan (λ d. macvlan.Other d) (mac_vlan_rows c) a e
-        (nested_other family.MacVlan (λ d. macvlan.Other d) mac_vlan_attribute
+        (nested_certain family.MacVlan (λ d. macvlan.Other d) mac_vlan_attribute
         (λ xs. macvlan.MacAddrData xs) mac_vlan_plain_rows c (masked a.kind)) };
 
     #[inline(always)]

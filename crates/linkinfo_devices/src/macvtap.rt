@@ -22,7 +22,7 @@ ghost use Rattle.linkinfo_devices.specs.Nested.{
   list_headers,
   list_means,
   list_needs_memory,
-  nested_other,
+  nested_certain,
 };
 ghost use Rattle.linkinfo_devices.specs.declared.macvtap.InfoMacVtap as macvtap;
 ghost use Rattle.linkinfo_table.specs.FamilyRows.{
@@ -269,7 +269,7 @@ impl LinkFamily for InfoMacVtap {
 
     ghost error_certain = { λ c a e.
         rows_certain family.MacVtap (λ d. macvtap.Other d) (mac_vtap_rows c) a e
-        (nested_other family.MacVtap (λ d. macvtap.Other d) mac_vtap_attribute
+        (nested_certain family.MacVtap (λ d. macvtap.Other d) mac_vtap_attribute
         (λ xs. macvtap.MacAddrData xs) mac_vtap_plain_rows c (masked a.kind)) };
 
     #[inline(always)]

@@ -52,9 +52,6 @@ use Rattle.linkinfo_shapes.specs.declared.shape.Shape.TheVariants.{
   EmptyOrByte,
   Scrub,
   Raw,
-  SelfList,
-  Peer,
-  Nested,
 }
 use Rattle.linkinfo_shapes.specs.declared.datum.Datum.{Datum}
 use Rattle.linkinfo_shapes.specs.declared.datum.Datum.TheVariants as datum
@@ -119,9 +116,7 @@ wrap FlagPair x = pair x.0 x.1
 wrap EmptyOrByte x = byte_value x
 wrap Scrub b = truth b
 wrap Raw s = bytes s
-wrap SelfList x = empty
-wrap Peer x = empty
-wrap (Nested family) x = empty
+wrap _ x = empty
 
 -- the content of a value of each variant; any other value gives zero, false, or nothing
 abbrev pub number_in : Value → ℕ
@@ -193,9 +188,7 @@ unwrap FlagPair value = pair_in value
 unwrap EmptyOrByte value = byte_in value
 unwrap Scrub value = truth_in value
 unwrap Raw value = bytes_in value
-unwrap SelfList value = tt
-unwrap Peer value = tt
-unwrap (Nested family) value = tt
+unwrap _ value = tt
 
 -- the variants of values, and the bounds of their numbers
 abbrev pub IsNumberBelow : ℕ → Value → Type 0
@@ -273,9 +266,7 @@ Suits FlagPair value = IsPairBelow (2 ^ 32) value
 Suits EmptyOrByte value = IsEmptyOrByte value
 Suits Scrub value = IsTruthValue value
 Suits Raw value = IsBytesValue value
-Suits SelfList value = ⊥
-Suits Peer value = ⊥
-Suits (Nested family) value = ⊥
+Suits _ value = ⊥
 
 -- `x` is the shape's datum in `d` if `d` suits the shape, and the value `other` otherwise
 abbrev pub IsDatumOr : (shape : Shape) → Carrier shape → Datum → Carrier shape → Type 0
@@ -325,9 +316,7 @@ fixed_length FlagPair = Some 8
 fixed_length EmptyOrByte = None
 fixed_length Scrub = Some 4
 fixed_length Raw = None
-fixed_length SelfList = None
-fixed_length Peer = None
-fixed_length (Nested family) = None
+fixed_length _ = None
 
 -- the length of the payload that is written for a value under any other shape
 abbrev pub value_length : Value → ℕ

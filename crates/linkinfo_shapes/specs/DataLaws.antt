@@ -84,6 +84,14 @@ use Rattle.linkinfo_shapes.specs.declared.shape.Shape.TheVariants.{
   SelfList,
   Peer,
   Nested,
+  BridgeId,
+  LePair16,
+  Le32x8,
+  CanBitTimingConst,
+  Le16s,
+  Le32s,
+  V4List,
+  V6List,
 }
 
 abbrev done : {X : Type 0} → X → Result X Cause
@@ -120,9 +128,7 @@ unwrap-wrap EmptyOrByte None = refl
 unwrap-wrap EmptyOrByte (Some b) = refl
 unwrap-wrap Scrub x = refl
 unwrap-wrap Raw x = refl
-unwrap-wrap SelfList x = refl
-unwrap-wrap Peer x = refl
-unwrap-wrap (Nested family) x = refl
+unwrap-wrap _ x = refl
 
 pub wrap-unwrap : (shape : Shape) (value : Value) → Suits shape value →
     wrap shape (unwrap shape value) ≡ value
@@ -175,9 +181,7 @@ wrap-unwrap Scrub (truth b) h = refl
 wrap-unwrap Scrub _ h = absurd h
 wrap-unwrap Raw (bytes s) h = refl
 wrap-unwrap Raw _ h = absurd h
-wrap-unwrap SelfList _ h = absurd h
-wrap-unwrap Peer _ h = absurd h
-wrap-unwrap (Nested family) _ h = absurd h
+wrap-unwrap _ _ h = absurd h
 
 pub Suits-wrap : (shape : Shape) (x : Carrier shape) → Holds shape x → Suits shape (wrap shape x)
 unfolding Suits
@@ -206,9 +210,7 @@ Suits-wrap EmptyOrByte None h = tt
 Suits-wrap EmptyOrByte (Some b) h = h
 Suits-wrap Scrub x h = h
 Suits-wrap Raw x h = tt
-Suits-wrap SelfList x h = h
-Suits-wrap Peer x h = h
-Suits-wrap (Nested family) x h = h
+Suits-wrap _ x h = h
 
 -- a value suits none of the shapes that a family reads itself
 pub suits_plain : (shape : Shape) (value : Value) → Suits shape value → IsPlain shape
@@ -216,6 +218,14 @@ unfolding Suits
 suits_plain SelfList value h = h
 suits_plain Peer value h = h
 suits_plain (Nested family) value h = h
+suits_plain BridgeId value h = h
+suits_plain LePair16 value h = h
+suits_plain Le32x8 value h = h
+suits_plain CanBitTimingConst value h = h
+suits_plain Le16s value h = h
+suits_plain Le32s value h = h
+suits_plain V4List value h = h
+suits_plain V6List value h = h
 suits_plain _ value h = tt
 
 -- ---- results of readers
@@ -321,9 +331,7 @@ length_fixed FlagPair value n e = some_same 8 n e
 length_fixed EmptyOrByte value n e = absurd cc
 length_fixed Scrub value n e = some_same 4 n e
 length_fixed Raw value n e = absurd cc
-length_fixed SelfList value n e = absurd cc
-length_fixed Peer value n e = absurd cc
-length_fixed (Nested family) value n e = absurd cc
+length_fixed _ value n e = absurd cc
 
 pub length_variable : (shape : Shape) (value : Value) → fixed_length shape ≡ None →
     Suits shape value → length (written shape value) ≡ value_length value
@@ -362,6 +370,4 @@ length_variable EmptyOrByte _ e h = absurd h
 length_variable Scrub value e h = absurd cc
 length_variable Raw (bytes s) e h = refl
 length_variable Raw _ e h = absurd h
-length_variable SelfList _ e h = absurd h
-length_variable Peer _ e h = absurd h
-length_variable (Nested family) _ e h = absurd h
+length_variable _ _ e h = absurd h

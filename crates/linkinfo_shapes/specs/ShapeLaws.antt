@@ -143,9 +143,6 @@ use Rattle.linkinfo_shapes.specs.declared.shape.Shape.TheVariants.{
   EmptyOrByte,
   Scrub,
   Raw,
-  SelfList,
-  Peer,
-  Nested,
 }
 
 -- ---- results
@@ -474,9 +471,7 @@ means_holds EmptyOrByte p x h e =
     byte_holds p x h (of_either_ok 0 1 p None (Some (slice_index p 0)) x e)
 means_holds Scrub p x h e = tt
 means_holds Raw p x h e = subst IsBytes (ok_same p x e) h
-means_holds SelfList p x h e = absurd (err_ok _ _ e)
-means_holds Peer p x h e = absurd (err_ok _ _ e)
-means_holds (Nested family) p x h e = absurd (err_ok _ _ e)
+means_holds _ p x h e = absurd (err_ok _ _ e)
 
 -- ---- what is written means its datum
 
@@ -516,9 +511,7 @@ means-canon EmptyOrByte (Some b) h = refl
 means-canon Scrub true h = refl
 means-canon Scrub false h = refl
 means-canon Raw x h = refl
-means-canon SelfList x h = absurd h
-means-canon Peer x h = absurd h
-means-canon (Nested family) x h = absurd h
+means-canon _ x h = absurd h
 
 -- ---- what is written consists of bytes
 
@@ -551,9 +544,7 @@ IsBytes-canon EmptyOrByte None h = IsBytes-nil
 IsBytes-canon EmptyOrByte (Some b) h = IsBytes-cons b [] h IsBytes-nil
 IsBytes-canon Scrub b h = le32_bytes (truth_number b)
 IsBytes-canon Raw x h = h
-IsBytes-canon SelfList x h = absurd h
-IsBytes-canon Peer x h = absurd h
-IsBytes-canon (Nested family) x h = absurd h
+IsBytes-canon _ x h = absurd h
 
 -- ---- no payload means the memory error, and no error needs memory
 
@@ -581,9 +572,7 @@ means_memory FlagPair p e = of_length_memory 8 p _ e
 means_memory EmptyOrByte p e = of_either_memory 0 1 p _ _ e
 means_memory Scrub p e = of_length_memory 4 p _ e
 means_memory Raw p e = err_ok _ _ (sym e)
-means_memory SelfList p e = length_memory (err_same {X = Unit {0}} _ _ e)
-means_memory Peer p e = length_memory (err_same {X = Unit {0}} _ _ e)
-means_memory (Nested family) p e = length_memory (err_same {X = Unit {0}} _ _ e)
+means_memory _ p e = length_memory (err_same {X = Unit {0}} _ _ e)
 
 pub error_needs_no_memory : (shape : Shape) (p : List ℕ) (c : Cause) → means shape p ≡ Err c →
     needs_memory shape p ≡ false
@@ -653,14 +642,12 @@ canon-means FlagPair p x h e s =
 canon-means EmptyOrByte p x h e s =
     byte_back p x (of_either_ok 0 1 p None (Some (slice_index p 0)) x e)
 canon-means Raw p x h e s = ok_same p x e
-canon-means SelfList p x h e s = absurd (err_ok _ _ e)
-canon-means Peer p x h e s = absurd (err_ok _ _ e)
-canon-means (Nested family) p x h e s = absurd (err_ok _ _ e)
 canon-means Truth p x h e s = absurd (false≢true s)
 canon-means TruthOne p x h e s = absurd (false≢true s)
 canon-means Mark p x h e s = absurd (false≢true s)
 canon-means Name p x h e s = absurd (false≢true s)
 canon-means Scrub p x h e s = absurd (false≢true s)
+canon-means _ p x h e s = absurd (err_ok _ _ e)
 
 exact_alike : (shape : Shape) (p q : List ℕ) (x y : Carrier shape) → IsBytes p → IsBytes q →
     means shape p ≡ Ok x → means shape q ≡ Ok y → is_exact shape ≡ true →
@@ -711,27 +698,7 @@ means_alike Scrub p q x y h k e f =
     let w = of_length_ok 4 q _ y f in
     nots_alike _ _ x y (ap not (sym (scrub_test p h v.long)) ∙ v.is)
     (ap not (sym (scrub_test q k w.long)) ∙ w.is)
-means_alike U8 p q x y h k e f = exact_alike U8 p q x y h k e f refl
-means_alike Le16 p q x y h k e f = exact_alike Le16 p q x y h k e f refl
-means_alike Le32 p q x y h k e f = exact_alike Le32 p q x y h k e f refl
-means_alike Le64 p q x y h k e f = exact_alike Le64 p q x y h k e f refl
-means_alike Be16 p q x y h k e f = exact_alike Be16 p q x y h k e f refl
-means_alike Be32 p q x y h k e f = exact_alike Be32 p q x y h k e f refl
-means_alike Be64 p q x y h k e f = exact_alike Be64 p q x y h k e f refl
-means_alike I32 p q x y h k e f = exact_alike I32 p q x y h k e f refl
-means_alike V4 p q x y h k e f = exact_alike V4 p q x y h k e f refl
-means_alike V6 p q x y h k e f = exact_alike V6 p q x y h k e f refl
-means_alike GeneveV4 p q x y h k e f = exact_alike GeneveV4 p q x y h k e f refl
-means_alike GeneveV6 p q x y h k e f = exact_alike GeneveV6 p q x y h k e f refl
-means_alike Ip p q x y h k e f = exact_alike Ip p q x y h k e f refl
-means_alike Mac p q x y h k e f = exact_alike Mac p q x y h k e f refl
-means_alike BePair p q x y h k e f = exact_alike BePair p q x y h k e f refl
-means_alike FlagPair p q x y h k e f = exact_alike FlagPair p q x y h k e f refl
-means_alike EmptyOrByte p q x y h k e f = exact_alike EmptyOrByte p q x y h k e f refl
-means_alike Raw p q x y h k e f = exact_alike Raw p q x y h k e f refl
-means_alike SelfList p q x y h k e f = exact_alike SelfList p q x y h k e f refl
-means_alike Peer p q x y h k e f = exact_alike Peer p q x y h k e f refl
-means_alike (Nested family) p q x y h k e f = exact_alike (Nested family) p q x y h k e f refl
+means_alike shape p q x y h k e f = exact_alike shape p q x y h k e f refl
 
 -- ---- verdicts by lengths
 

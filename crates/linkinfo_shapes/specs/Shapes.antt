@@ -80,6 +80,14 @@ use Rattle.linkinfo_shapes.specs.declared.shape.Shape.TheVariants.{
   SelfList,
   Peer,
   Nested,
+  BridgeId,
+  LePair16,
+  Le32x8,
+  CanBitTimingConst,
+  Le16s,
+  Le32s,
+  V4List,
+  V6List,
 }
 
 -- a shape whose payloads are read here, and not by the family itself
@@ -87,6 +95,14 @@ abbrev pub IsPlain : Shape → Type 0
 IsPlain SelfList = ⊥
 IsPlain Peer = ⊥
 IsPlain (Nested family) = ⊥
+IsPlain BridgeId = ⊥
+IsPlain LePair16 = ⊥
+IsPlain Le32x8 = ⊥
+IsPlain CanBitTimingConst = ⊥
+IsPlain Le16s = ⊥
+IsPlain Le32s = ⊥
+IsPlain V4List = ⊥
+IsPlain V6List = ⊥
 IsPlain _ = Unit {0}
 
 -- the data of a shape; for the shapes that a family reads itself, no payload is accepted here, and
@@ -115,9 +131,7 @@ Carrier FlagPair = ℕ × ℕ
 Carrier EmptyOrByte = Option ℕ
 Carrier Scrub = Bool
 Carrier Raw = List ℕ
-Carrier SelfList = Unit {0}
-Carrier Peer = Unit {0}
-Carrier (Nested family) = Unit {0}
+Carrier _ = Unit {0}
 
 -- the text of a name, or the cause Utf8
 abbrev pub text_of : List ℕ → Result (List ℕ) Cause
@@ -160,9 +174,7 @@ means EmptyOrByte payload = if length payload == 0 then Ok None
     else of_length 1 payload (Some (slice_index payload 0))
 means Scrub payload = of_length 4 payload (not (from_le_bytes w32 payload == 0))
 means Raw payload = Ok payload
-means SelfList payload = Err cause.Length
-means Peer payload = Err cause.Length
-means (Nested family) payload = Err cause.Length
+means _ payload = Err cause.Length
 
 -- the result without its datum
 abbrev pub verdict : {X : Type 0} → Result X Cause → Result (Unit {0}) Cause
@@ -228,9 +240,7 @@ canon EmptyOrByte None = []
 canon EmptyOrByte (Some b) = b ∷ []
 canon Scrub b = to_le_bytes w32 (truth_number b)
 canon Raw bytes = bytes
-canon SelfList x = []
-canon Peer x = []
-canon (Nested family) x = []
+canon _ x = []
 
 -- the canonical payload of what an accepted payload means
 unfoldable pub canonical : Shape → List ℕ → List ℕ
@@ -275,9 +285,7 @@ Holds EmptyOrByte None = Unit {0}
 Holds EmptyOrByte (Some b) = b < 256
 Holds Scrub b = Unit {0}
 Holds Raw bytes = IsBytes bytes
-Holds SelfList x = ⊥
-Holds Peer x = ⊥
-Holds (Nested family) x = ⊥
+Holds _ x = ⊥
 
 -- whether four bytes are the number 0
 abbrev pub is_zero : List ℕ → Bool

@@ -73,15 +73,52 @@ pub enum Shape {
     /// A nested list of attributes of this other family, which the family reads itself
     /// (`IFLA_VLAN_EGRESS_QOS`).
     Nested(Family),
+    /// Eight bytes, which the family reads itself: a big-endian number of two bytes, the priority,
+    /// then a hardware address (`struct ifla_bridge_id`).
+    BridgeId,
+    /// Two little-endian numbers of two bytes each, which the family reads itself (`struct
+    /// can_berr_counter`).
+    LePair16,
+    /// Eight little-endian numbers of four bytes each, which the family reads itself (`struct
+    /// can_bittiming`).
+    Le32x8,
+    /// A name of sixteen bytes, then eight little-endian numbers of four bytes each, which the
+    /// family reads itself (`struct can_bittiming_const`).
+    CanBitTimingConst,
+    /// Little-endian numbers of two bytes each, which the family reads itself: as many as there are
+    /// (`IFLA_CAN_TERMINATION_CONST`).
+    Le16s,
+    /// Little-endian numbers of four bytes each, which the family reads itself: as many as there
+    /// are (`IFLA_CAN_BITRATE_CONST`).
+    Le32s,
+    /// A nested list of attributes of any types, each an IPv4 address of four bytes in network byte
+    /// order, which the family reads itself (`IFLA_BOND_ARP_IP_TARGET`).
+    V4List,
+    /// A nested list of attributes of any types, each an IPv6 address of sixteen bytes in network
+    /// byte order, which the family reads itself (`IFLA_BOND_NS_IP6_TARGET`).
+    V6List,
 }
 
 impl Shape {
-    /// Whether this crate reads payloads of the shape: true for every shape but `SelfList`,
-    /// `Peer` and `Nested`, whose payloads the family reads itself.
+    /// Whether this crate reads payloads of the shape: true for every shape but those whose
+    /// payloads the family reads itself, `SelfList` and all after it.
     pub fn is_plain(self) -> bool
         ensures { IsTrue result ↔ IsPlain self }
     {
-        !matches!(self, Shape::SelfList | Shape::Peer | Shape::Nested(_))
+        !matches!(
+            self,
+            Shape::SelfList
+                | Shape::Peer
+                | Shape::Nested(_)
+                | Shape::BridgeId
+                | Shape::LePair16
+                | Shape::Le32x8
+                | Shape::CanBitTimingConst
+                | Shape::Le16s
+                | Shape::Le32s
+                | Shape::V4List
+                | Shape::V6List
+        )
     }
 }
 
@@ -120,5 +157,13 @@ impl ExactEq for Shape {
         & no_field
         & no_field
         & one_field family_exact
+        & no_field
+        & no_field
+        & no_field
+        & no_field
+        & no_field
+        & no_field
+        & no_field
+        & no_field
         & tt) };
 }

@@ -26,7 +26,7 @@ use Rattle.nla_frame.specs.declared.error.DecodeError.{DecodeError}
 use Rattle.nla_frame.specs.declared.error.Family.{Family}
 use Rattle.linkinfo_shapes.specs.declared.shape.Shape.{Shape}
 use Rattle.linkinfo_shapes.specs.declared.shape.Shape.TheVariants.{Name, Raw}
-use Rattle.linkinfo_shapes.specs.Shapes.{Carrier, IsPlain, means, needs_memory}
+use Rattle.linkinfo_shapes.specs.Shapes.{Carrier, means, needs_memory}
 use Rattle.linkinfo_table.specs.declared.lookup.Lookup.{Lookup}
 use Rattle.linkinfo_table.specs.FamilyRows.{
   FamilyRow,
@@ -39,7 +39,9 @@ use Rattle.linkinfo_table.specs.FamilyRows.{
   row_of,
 }
 use Rattle.linkinfo_table.specs.Lists.{first_memory, memory_of}
+use Rattle.linkinfo_table.specs.Codecs.{PayloadError}
 use Rattle.linkinfo_table.specs.Lookups.{BeginsRejected, HoldsNone}
+use Rattle.linkinfo_table.specs.Payloads.{IsSingle}
 use Rattle.linkinfo_table.specs.Rows.{
   labelled,
   meaning_in,
@@ -47,7 +49,7 @@ use Rattle.linkinfo_table.specs.Rows.{
   row_meaning,
   row_needs_memory,
 }
-use Rattle.linkinfo_table.specs.TypedRows.{IsTyped, payload_not_plain}
+use Rattle.linkinfo_table.specs.TypedRows.{IsTyped, single_exact}
 
 abbrev text : List ℕ → Result (List ℕ) Cause
 text p = Ok p
@@ -67,39 +69,47 @@ shape_certain Name p c h =
 shape_certain Raw p c h = absurd cc
 shape_certain _ p c h = refl
 
--- a payload that the family reads itself is of no shape of the table
-abbrev pub OwnIsOther : {F : Type 0} → FamilyRow F → Type 0
-OwnIsOther (Custom shape nested codec label) = IsPlain shape → ⊥
-OwnIsOther _ = Unit {0}
+-- a payload that the family reads itself, and that contains neither attributes nor a peer, needs no
+-- memory where it has an error
+abbrev pub IsOwnCertain : {F : Type 0} → FamilyRow F → Type 0
+IsOwnCertain (Custom shape nested codec label) =
+    (p : List ℕ) (error : PayloadError) → IsSingle shape → codec.means p ≡ Err error →
+    codec.needs_memory p ≡ false
+IsOwnCertain _ = Unit {0}
 
-pub typed_other : {F : Type 0} (inside : List Family) (r : FamilyRow F) → IsTyped inside r →
-    OwnIsOther r
-typed_other inside (Plain shape label) h = tt
-typed_other inside (Custom shape nested codec label) h =
-    λ plain. payload_not_plain shape h.0.shaped plain
-typed_other inside (Refuses cause) h = tt
-typed_other inside Absent h = tt
+pub typed_certain : {F : Type 0} (inside : List Family) (r : FamilyRow F) → IsTyped inside r →
+    IsOwnCertain r
+typed_certain inside (Plain shape label) h = tt
+typed_certain inside (Custom shape nested codec label) h =
+    λ p error single e. (h.0.exact (single_exact shape h.0.shaped single) p error e).1
+typed_certain inside (Refuses cause) h = tt
+typed_certain inside Absent h = tt
 
 module _ {F : Type 0} (f : Family) (other : DefaultNla → F) where
-  row_certain : (r : FamilyRow F) (a : Attribute) (e : DecodeError) → OwnIsOther r →
+  row_certain : (r : FamilyRow F) (a : Attribute) (e : DecodeError) → IsOwnCertain r →
       HoldsNone (lookup_of r) → row_meaning f other (row_of r) a ≡ Err e →
       row_needs_memory (row_of r) a ≡ false
-  row_certain (Plain shape label) a e own_other none h = go (means shape a.value) refl h
+  row_certain (Plain shape label) a e certain none h = go (means shape a.value) refl h
     where
       go : (m : Result (Carrier shape) Cause) → means shape a.value ≡ m →
           labelled f (masked a.kind) label (own m) ≡ Err e → needs_memory shape a.value ≡ false
       go (Ok u) k i = absurd cc
       go (Err c) k i = shape_certain shape a.value c k
-  row_certain (Custom shape nested codec label) a e own_other none h = absurd (own_other none)
-  row_certain (Refuses cause) a e own_other none h = refl
-  row_certain Absent a e own_other none h = absurd cc
+  row_certain (Custom shape nested codec label) a e certain none h = go (codec.means a.value) refl h
+    where
+      go : (m : Result codec.Carrier PayloadError) → codec.means a.value ≡ m →
+          labelled f (masked a.kind) label m ≡ Err e → codec.needs_memory a.value ≡ false
+      go (Ok u) k i = absurd cc
+      go (Err error) k i = certain a.value error none k
+  row_certain (Refuses cause) a e certain none h = refl
+  row_certain Absent a e certain none h = absurd cc
 
   pub rows_certain : (rows : ℕ → FamilyRow F) (a : Attribute) (e : DecodeError) →
-      OwnIsOther (rows (masked a.kind)) → HoldsNone (lookup_of (rows (masked a.kind))) →
+      IsOwnCertain (rows (masked a.kind)) → HoldsNone (lookup_of (rows (masked a.kind))) →
       meaning_in f other (λ n. row_of (rows n)) a ≡ Err e →
       memory_in (λ n. row_of (rows n)) a ≡ false
   unfolding meaning_in memory_in
-  rows_certain rows a e own_other none h = row_certain (rows (masked a.kind)) a e own_other none h
+  rows_certain rows a e certain none h = row_certain (rows (masked a.kind)) a e certain none h
 
 -- a list that begins with such an attribute, and such a first attribute
 module _ {X : Type 0} (l : ℕ → Lookup) (m : Attribute → Result X DecodeError)

@@ -24,13 +24,23 @@ use Rattle.nla_frame.specs.declared.error.DecodeError.{DecodeError}
 use Rattle.nla_frame.specs.declared.error.Family.{Family}
 use Rattle.nla_frame.proofs.Stepping.{nla_items_nil, by_nla_items}
 use Rattle.linkinfo_shapes.specs.declared.shape.Shape.{Shape}
-use Rattle.linkinfo_shapes.specs.declared.shape.Shape.TheVariants.{Nested, Peer, SelfList}
-use Rattle.linkinfo_shapes.specs.Shapes.{IsPlain}
 use Rattle.linkinfo_table.specs.declared.lookup.Lookup.{Lookup}
 use Rattle.linkinfo_table.specs.declared.lookup.Lookup.TheVariants as lookup
 use Rattle.linkinfo_table.specs.Lists.{◌>>=◌, first_meaning, values}
-use Rattle.linkinfo_table.specs.LookupLaws.{own_family, which}
-use Rattle.linkinfo_table.specs.Lookups.{HoldsList, LookupSays}
+use Rattle.linkinfo_table.specs.LookupLaws.{
+  Exactly,
+  OfAddresses,
+  OfPeer,
+  OfTable,
+  OtherList,
+  OwnList,
+  ShapeIs,
+  exact_holds_none,
+  own_family,
+  plain_holds_none,
+  which,
+}
+use Rattle.linkinfo_table.specs.Lookups.{HoldsList, HoldsNoList, LookupSays, ShapeSays}
 use Rattle.linkinfo_table.specs.Named.{EachNamed, IsNamed, named_after, named_first}
 
 abbrev bad : {X : Type 0} → DecodeError → Result X DecodeError
@@ -83,13 +93,6 @@ module _ {C X : Type 0} (f : Family) (inside : List Family) (keeping : DefaultNl
     (says : (c : C) (a : Attribute) →
     LookupSays f inside keeping attribute meaning a (lookup_in c (masked a.kind))
     (meaning c a)) where
-  no_list : (s : Shape) → (s ≡ SelfList → ⊥) → lookup.Is s ≡ lookup.Is SelfList → ⊥
-  no_list s never h = never cc
-
-  no_nest : (s : Shape) (inner : Family) → (s ≡ Nested inner → ⊥) →
-      lookup.Is s ≡ lookup.Is (Nested inner) → ⊥
-  no_nest s inner never h = never cc
-
   held_names : (a : Attribute) (r : Result (List X) DecodeError) (m : Result X DecodeError) →
       HoldsList attribute a r m → EachNamed (f ∷ inside) r → EachNamed (f ∷ inside) m
   held_names a (Ok xs) m holds each e h =
@@ -105,41 +108,40 @@ module _ {C X : Type 0} (f : Family) (inside : List Family) (keeping : DefaultNl
       go (λ k b small. up_to n k b small) (lookup_in c (masked a.kind)) (says c a)
     where
       own : (l : Lookup) → LookupSays f inside keeping attribute meaning a l (meaning c a) →
-          (l ≡ lookup.Is SelfList → ⊥) → ((inner : Family) → l ≡ lookup.Is (Nested inner) → ⊥) →
-          IsNamed (f ∷ inside) e
-      own l k never_list never_nest =
+          HoldsNoList l → IsNamed (f ∷ inside) e
+      own l k none =
           named_first f inside e
-          (own_family f inside keeping attribute meaning a l (meaning c a) k never_list never_nest
-          e h).0
+          (own_family f inside keeping attribute meaning a l (meaning c a) k none e h).0
+
+      by_shape : ((k : C) (b : Attribute) → length b.value < n →
+          EachNamed (f ∷ inside) (meaning k b)) → (s : Shape) →
+          ShapeSays f inside attribute meaning a s (meaning c a) → ShapeIs s →
+          IsNamed (f ∷ inside) e
+      by_shape smaller s k (OfTable plain) = own (lookup.Is s) k (plain_holds_none s plain)
+      by_shape smaller s k (OwnList list) =
+          let held = k.list list in
+          held_names a (values (meaning held.0) (nla_items a.value)) (meaning c a) held.1
+          (list_names (f ∷ inside) (meaning held.0) n (λ b small. smaller held.0 b small) a.value
+          (omega (arith, less))) e h
+      by_shape smaller s k (OfPeer peer) =
+          own (lookup.Is s) k
+          (subst (λ (z : Shape). HoldsNoList (lookup.Is z)) (sym peer) (tt {0}))
+      by_shape smaller s k (OtherList inner nest) =
+          named_after (f ∷ []) inside e (k.nest inner nest e h)
+      by_shape smaller s k (Exactly exact) = own (lookup.Is s) k (exact_holds_none s exact)
+      by_shape smaller s k (OfAddresses addresses) =
+          elim (k.addresses addresses e h) [
+            | inl length ↦
+                named_first f inside e (ap (λ (d : DecodeError). d.family) length)
+            | inr header ↦ inl header
+          ]
 
       go : ((k : C) (b : Attribute) → length b.value < n → EachNamed (f ∷ inside) (meaning k b)) →
           (l : Lookup) → LookupSays f inside keeping attribute meaning a l (meaning c a) →
           IsNamed (f ∷ inside) e
-      go smaller (lookup.Is s) k =
-          elim (which s) [
-            | inl plain ↦
-                own (lookup.Is s) k (no_list s (λ i. subst IsPlain i plain))
-                (λ inner. no_nest s inner (λ i. subst IsPlain i plain))
-            | inr other ↦ elim other [
-              | inl list ↦
-                  let held = k.list list in
-                  held_names a (values (meaning held.0) (nla_items a.value)) (meaning c a) held.1
-                  (list_names (f ∷ inside) (meaning held.0) n (λ b small. smaller held.0 b small)
-                  a.value (omega (arith, less))) e h
-              | inr more ↦ elim more [
-                | inl peer ↦
-                    own (lookup.Is s) k
-                    (no_list s (λ i. absurd (let both : SelfList ≡ Peer = sym i ∙ peer in cc)))
-                    (λ inner. no_nest s inner
-                    (λ i. absurd (let both : Nested inner ≡ Peer = sym i ∙ peer in cc)))
-                | inr nest ↦ named_after (f ∷ []) inside e (k.nest nest.0 nest.1 e h)
-              ]
-            ]
-          ]
-      go smaller (lookup.Refused cause) k =
-          own (lookup.Refused cause) k (λ i. absurd cc) (λ inner i. absurd cc)
-      go smaller lookup.Unknown k =
-          own lookup.Unknown k (λ i. absurd cc) (λ inner i. absurd cc)
+      go smaller (lookup.Is s) k = by_shape smaller s k (which s)
+      go smaller (lookup.Refused cause) k = own (lookup.Refused cause) k tt
+      go smaller lookup.Unknown k = own lookup.Unknown k tt
 
   -- each error of an attribute
   pub names : (c : C) (a : Attribute) → EachNamed (f ∷ inside) (meaning c a)

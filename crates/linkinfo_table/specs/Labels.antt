@@ -7,7 +7,19 @@ use Rattle.std.proofs.lemmas.Bool.{ltb-true}
 use Rattle.nla_frame.specs.Attribute.{Attribute}
 use Rattle.linkinfo_shapes.specs.Shapes.{Carrier, IsPlain}
 use Rattle.linkinfo_shapes.specs.declared.shape.Shape.{Shape}
-use Rattle.linkinfo_shapes.specs.declared.shape.Shape.TheVariants.{Nested, Peer, SelfList}
+use Rattle.linkinfo_shapes.specs.declared.shape.Shape.TheVariants.{
+  BridgeId,
+  CanBitTimingConst,
+  Le16s,
+  Le32s,
+  Le32x8,
+  LePair16,
+  Nested,
+  Peer,
+  SelfList,
+  V4List,
+  V6List,
+}
 use Rattle.linkinfo_table.specs.FamilyRows.{PlainRow, EachKeeps, typed}
 
 -- whether payloads of the shape are read by the table
@@ -15,6 +27,14 @@ abbrev pub is_plain : Shape → Bool
 is_plain SelfList = false
 is_plain Peer = false
 is_plain (Nested family) = false
+is_plain BridgeId = false
+is_plain LePair16 = false
+is_plain Le32x8 = false
+is_plain CanBitTimingConst = false
+is_plain Le16s = false
+is_plain Le32s = false
+is_plain V4List = false
+is_plain V6List = false
 is_plain _ = true
 
 -- whether the row has a masked type and a plain shape
@@ -32,6 +52,14 @@ plain_shape : (shape : Shape) → is_plain shape ≡ true → IsPlain shape
 plain_shape SelfList h = absurd cc
 plain_shape Peer h = absurd cc
 plain_shape (Nested family) h = absurd cc
+plain_shape BridgeId h = absurd cc
+plain_shape LePair16 h = absurd cc
+plain_shape Le32x8 h = absurd cc
+plain_shape CanBitTimingConst h = absurd cc
+plain_shape Le16s h = absurd cc
+plain_shape Le32s h = absurd cc
+plain_shape V4List h = absurd cc
+plain_shape V6List h = absurd cc
 plain_shape _ h = tt
 
 -- a table of plain rows with labels that keep type and datum keeps them in each row

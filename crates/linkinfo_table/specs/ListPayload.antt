@@ -97,6 +97,8 @@ module _ {C X : Type 0} (f : Family) (among : List Family) (keeping : DefaultNla
         (inner_error (values (meaning c) (nla_items p)) e h);
     nest = λ inner _ p own. not_own (values (meaning c) (nla_items p)) own;
     peer = λ e. absurd (no_peer f e);
+    exact = λ i. absurd i;
+    addresses = λ i. absurd i;
   }
 
 -- what it contains agrees with which payloads are accepted, and which two are equivalent

@@ -1,7 +1,8 @@
 -- The rows of a family agree with its lookups.
-use Rattle.std.specs.Prelude.{◌≡◌, ◌≢◌, ℕ, ◌⊎◌, Bool, List, Result, Ok, Err, refl}
+use Rattle.std.specs.Prelude.{◌≡◌, ℕ, ◌⊎◌, Bool, List, Result, Ok, Err, refl}
 use Rattle.std.proofs.Common.{ap, inl, inr, subst, sym, ◌∙◌}
 use Rattle.nla_frame.specs.Attribute.{Attribute, masked}
+use Rattle.nla_frame.specs.Error.{header_error}
 use Rattle.nla_frame.specs.Kept.{kept}
 use Rattle.nla_frame.specs.declared.default_nla.DefaultNla.{DefaultNla}
 use Rattle.nla_frame.specs.declared.error.Cause.{Cause}
@@ -10,7 +11,19 @@ use Rattle.nla_frame.specs.declared.error.DecodeError.{DecodeError}
 use Rattle.nla_frame.specs.declared.error.Family.{Family}
 use Rattle.linkinfo_shapes.specs.Shapes.{Carrier, IsPlain, means}
 use Rattle.linkinfo_shapes.specs.declared.shape.Shape.{Shape}
-use Rattle.linkinfo_shapes.specs.declared.shape.Shape.TheVariants.{Nested, Peer, SelfList}
+use Rattle.linkinfo_shapes.specs.declared.shape.Shape.TheVariants.{
+  BridgeId,
+  CanBitTimingConst,
+  Le16s,
+  Le32s,
+  Le32x8,
+  LePair16,
+  Nested,
+  Peer,
+  SelfList,
+  V4List,
+  V6List,
+}
 use Rattle.linkinfo_table.specs.Codecs.{Codec, Inside, Own, PayloadError}
 use Rattle.linkinfo_table.specs.FamilyRows.{
   FamilyRow,
@@ -23,9 +36,15 @@ use Rattle.linkinfo_table.specs.FamilyRows.{
   own,
   row_of,
 }
-use Rattle.linkinfo_table.specs.Lookups.{LookupSays, MeansDatum, own_error}
+use Rattle.linkinfo_table.specs.Lookups.{
+  HoldsNoList,
+  LookupSays,
+  MeansDatum,
+  ShapeSays,
+  own_error,
+}
 use Rattle.linkinfo_table.specs.Named.{IsNamed}
-use Rattle.linkinfo_table.specs.Payloads.{IsPayload}
+use Rattle.linkinfo_table.specs.Payloads.{IsAddresses, IsExact, IsPayload}
 use Rattle.linkinfo_table.specs.RowLaws.{masked_written}
 use Rattle.linkinfo_table.specs.Rows.{
   Entry,
@@ -36,7 +55,13 @@ use Rattle.linkinfo_table.specs.Rows.{
   row_meaning,
   written_kind,
 }
-use Rattle.linkinfo_table.specs.TypedRows.{IsTyped, payload_not_list, payload_not_plain}
+use Rattle.linkinfo_table.specs.TypedRows.{
+  IsTyped,
+  addresses_not_plain,
+  exact_not_plain,
+  payload_not_list,
+  payload_not_plain,
+}
 use Rattle.linkinfo_table.specs.declared.lookup.Lookup.{Lookup}
 use Rattle.linkinfo_table.specs.declared.lookup.Lookup.TheVariants as lookup
 
@@ -96,6 +121,15 @@ module _ {C F : Type 0} (f : Family) (inside : List Family) (other : DefaultNla 
       absurd (payload.nest inner is p cause h)
   inner_named shape codec n p payload inner is (Inside e) h = payload.named p e h
 
+  address_error : (a : Attribute) (error : PayloadError) (d : DecodeError) →
+      d ≡ error_at f (masked a.kind) error →
+      (error ≡ Own cause.Length) ⊎ (error ≡ Inside header_error) →
+      (d ≡ own_error f a cause.Length) ⊎ (d ≡ header_error)
+  address_error a error d is (inl length) =
+      inl (is ∙ ap (λ (z : PayloadError). error_at f (masked a.kind) z) length)
+  address_error a error d is (inr header) =
+      inr (is ∙ ap (λ (z : PayloadError). error_at f (masked a.kind) z) header)
+
   pub row_says : (r : FamilyRow F) (a : Attribute) → IsTyped inside r →
       RowOwes canonical (masked a.kind) (row_of r) →
       LookupSays f inside other attribute meaning a (lookup_of r)
@@ -106,7 +140,9 @@ module _ {C F : Type 0} (f : Family) (inside : List Family) (other : DefaultNla 
     peer = λ e. absurd (subst IsPlain e plain);
     peer_typed = λ e. absurd (subst IsPlain e plain);
     nest = λ inner e. absurd (subst IsPlain e plain);
-    nest_typed = λ inner e. absurd (subst IsPlain e plain);
+    exact = λ i. absurd (exact_not_plain shape i plain);
+    addresses = λ i. absurd (addresses_not_plain shape i plain);
+    payload_typed = λ i. absurd (payload_not_plain shape i plain);
   }
     where
       go : (m : Result (Carrier shape) Cause) →
@@ -130,7 +166,15 @@ module _ {C F : Type 0} (f : Family) (inside : List Family) (other : DefaultNla 
             let error = error_of a entry d h in
             subst (λ (z : DecodeError). IsNamed inside z) (sym error.2)
             (inner_named shape codec (masked a.kind) a.value payload inner e error.0 error.1);
-        nest_typed = λ inner e x h.
+        exact = λ i d h.
+            let error = error_of a entry d h in
+            error.2
+            ∙ ap (λ (z : PayloadError). error_at f (masked a.kind) z)
+            (payload.exact i a.value error.0 error.1).0;
+        addresses = λ i d h.
+            let error = error_of a entry d h in
+            address_error a error.0 d error.2 (payload.addresses i a.value error.0 error.1);
+        payload_typed = λ i x h.
             ap masked (kind_of a entry owes x h) ∙ masked_written nested (masked a.kind) owes.low;
       }
   row_says (Refuses c) a h owes = refl
@@ -143,25 +187,60 @@ module _ {C F : Type 0} (f : Family) (inside : List Family) (other : DefaultNla 
   unfolding meaning_in
   rows_say rows a typed owes = row_says (rows (masked a.kind)) a typed owes
 
--- a shape is read by the table, or is one of the three that a family reads itself
-pub which : (shape : Shape) →
-    IsPlain shape
-    ⊎ ((shape ≡ SelfList) ⊎ ((shape ≡ Peer) ⊎ ((inner : Family) × (shape ≡ Nested inner))))
-which SelfList = inr (inl refl)
-which Peer = inr (inr (inl refl))
-which (Nested inner) = inr (inr (inr (inner, refl)))
-which _ = inl tt
+-- a shape is read by the table, or is one of those that a family reads itself
+pub data ShapeIs (shape : Shape) : Type 0 where
+  OfTable : IsPlain shape → ShapeIs shape
+  OwnList : shape ≡ SelfList → ShapeIs shape
+  OfPeer : shape ≡ Peer → ShapeIs shape
+  OtherList : (inner : Family) → shape ≡ Nested inner → ShapeIs shape
+  Exactly : IsExact shape → ShapeIs shape
+  OfAddresses : IsAddresses shape → ShapeIs shape
 
--- an attribute's own error has its family and its masked type; the error of an attribute inside a
--- list need not
+pub which : (shape : Shape) → ShapeIs shape
+which SelfList = OwnList refl
+which Peer = OfPeer refl
+which (Nested inner) = OtherList inner refl
+which BridgeId = Exactly tt
+which LePair16 = Exactly tt
+which Le32x8 = Exactly tt
+which CanBitTimingConst = Exactly tt
+which Le16s = Exactly tt
+which Le32s = Exactly tt
+which V4List = OfAddresses tt
+which V6List = OfAddresses tt
+which _ = OfTable tt
+
+-- a payload that the table reads, a record and an array contain no attributes
+pub plain_holds_none : (shape : Shape) → IsPlain shape → HoldsNoList (lookup.Is shape)
+plain_holds_none SelfList i = absurd i
+plain_holds_none Peer i = absurd i
+plain_holds_none (Nested family) i = absurd i
+plain_holds_none V4List i = absurd i
+plain_holds_none V6List i = absurd i
+plain_holds_none _ i = tt
+
+pub exact_holds_none : (shape : Shape) → IsExact shape → HoldsNoList (lookup.Is shape)
+exact_holds_none SelfList i = absurd i
+exact_holds_none Peer i = absurd i
+exact_holds_none (Nested family) i = absurd i
+exact_holds_none V4List i = absurd i
+exact_holds_none V6List i = absurd i
+exact_holds_none _ i = tt
+
+-- a list of addresses contains attributes
+addresses_hold : (shape : Shape) → IsAddresses shape → HoldsNoList (lookup.Is shape) → ⊥
+addresses_hold V4List i none = none
+addresses_hold V6List i none = none
+addresses_hold _ i none = i
+
+-- an attribute's own error has its family and its masked type; the error of one inside a list need
+-- not
 pub own_family : {C X : Type 0} (f : Family) (inside : List Family) (keeping : DefaultNla → X)
     (attribute : X → Attribute) (meaning : C → Attribute → Result X DecodeError) (a : Attribute)
     (l : Lookup) (m : Result X DecodeError) →
-    LookupSays f inside keeping attribute meaning a l m → l ≢ lookup.Is SelfList →
-    ((inner : Family) → l ≢ lookup.Is (Nested inner)) → (e : DecodeError) → m ≡ Err e →
-    (e.family ≡ f) × (e.kind ≡ masked a.kind)
-own_family {X = X} f inside keeping attribute meaning a l m says no_list no_nest e h =
-    go l says no_list no_nest
+    LookupSays f inside keeping attribute meaning a l m → HoldsNoList l → (e : DecodeError) →
+    m ≡ Err e → (e.family ≡ f) × (e.kind ≡ masked a.kind)
+own_family {X = X} f inside keeping attribute meaning a l m says none e h = go l says none
   where
     named : (c : Cause) → e ≡ own_error f a c → (e.family ≡ f) × (e.kind ≡ masked a.kind)
     named c k = (ap (λ (d : DecodeError). d.family) k, ap (λ (d : DecodeError). d.kind) k)
@@ -177,19 +256,19 @@ own_family {X = X} f inside keeping attribute meaning a l m says no_list no_nest
     by_datum shape (Ok u) k = absurd (apart k.0 k.1)
     by_datum shape (Err c) k = named c (same (own_error f a c) k)
 
-    go : (l : Lookup) → LookupSays f inside keeping attribute meaning a l m →
-        l ≢ lookup.Is SelfList → ((inner : Family) → l ≢ lookup.Is (Nested inner)) →
+    by_shape : (s : Shape) → ShapeSays f inside attribute meaning a s m →
+        HoldsNoList (lookup.Is s) → ShapeIs s → (e.family ≡ f) × (e.kind ≡ masked a.kind)
+    by_shape s k none (OfTable plain) = by_datum s (means s a.value) (k.plain plain)
+    by_shape s k none (OwnList list) =
+        absurd (subst (λ (z : Shape). HoldsNoList (lookup.Is z)) list none)
+    by_shape s k none (OfPeer peer) = named cause.Peer (k.peer peer e h)
+    by_shape s k none (OtherList inner nest) =
+        absurd (subst (λ (z : Shape). HoldsNoList (lookup.Is z)) nest none)
+    by_shape s k none (Exactly exact) = named cause.Length (k.exact exact e h)
+    by_shape s k none (OfAddresses addresses) = absurd (addresses_hold s addresses none)
+
+    go : (l : Lookup) → LookupSays f inside keeping attribute meaning a l m → HoldsNoList l →
         (e.family ≡ f) × (e.kind ≡ masked a.kind)
-    go (lookup.Is s) k no_list no_nest =
-        elim (which s) [
-          | inl plain ↦ by_datum s (means s a.value) (k.plain plain)
-          | inr other ↦ elim other [
-            | inl list ↦ absurd (no_list (ap lookup.Is list))
-            | inr more ↦ elim more [
-              | inl peer ↦ named cause.Peer (k.peer peer e h)
-              | inr nest ↦ absurd (no_nest nest.0 (ap lookup.Is nest.1))
-            ]
-          ]
-        ]
-    go (lookup.Refused c) k no_list no_nest = named c (same (own_error f a c) k)
-    go lookup.Unknown k no_list no_nest = absurd (apart (keeping (kept a)) k)
+    go (lookup.Is s) k none = by_shape s k none (which s)
+    go (lookup.Refused c) k none = named c (same (own_error f a c) k)
+    go lookup.Unknown k none = absurd (apart (keeping (kept a)) k)

@@ -1,5 +1,6 @@
 -- What the lookup of a type says of the meaning of an attribute of that type.
-use Rattle.std.specs.Prelude.{◌≡◌, ℕ, List, ◌∷◌, map, Result, Ok, Err}
+use Rattle.std.specs.Prelude.{◌≡◌, ◌⊎◌, ℕ, List, ◌∷◌, map, Result, Ok, Err}
+use Rattle.nla_frame.specs.Error.{header_error}
 use Rattle.nla_frame.specs.Attribute.{Attribute, list_string, masked}
 use Rattle.nla_frame.specs.Kept.{kept}
 use Rattle.nla_frame.specs.NlaItems.{nla_items}
@@ -14,6 +15,7 @@ use Rattle.linkinfo_shapes.specs.declared.shape.Shape.TheVariants.{Nested, Peer,
 use Rattle.linkinfo_table.specs.FamilyRows.{typed}
 use Rattle.linkinfo_table.specs.Lists.{values}
 use Rattle.linkinfo_table.specs.Named.{IsNamed}
+use Rattle.linkinfo_table.specs.Payloads.{IsAddresses, IsExact, IsPayloadShape, IsSingle}
 use Rattle.linkinfo_table.specs.declared.lookup.Lookup.{Lookup}
 use Rattle.linkinfo_table.specs.declared.lookup.Lookup.TheVariants as lookup
 
@@ -42,8 +44,10 @@ HoldsList attribute a (Err e) m = m ≡ Err e
 -- What the shape of its type says of the meaning `m` of an attribute, where `meaning c` is what
 -- attributes of the family mean under `c`. A shape of the table is the one by which the payload is
 -- read. An address list is a list of the family's attributes, under some context. A peer is of the
--- masked type, and its only error is the cause Peer. A list of another family is of the masked
--- type, but for flag bits, and its errors are those of the families inside.
+-- masked type, and its only error is the cause Peer. Every other payload that the family reads
+-- itself is of the masked type, but for flag bits. The errors of a list of another family are those
+-- of the families inside. The only error of a record or an array of numbers is the cause Length,
+-- and a list of addresses has that one, or the error of a header.
 pub record ShapeSays {C X : Type 0} (family : Family) (inside : List Family)
     (attribute : X → Attribute) (meaning : C → Attribute → Result X DecodeError) (a : Attribute)
     (shape : Shape) (m : Result X DecodeError) : Type 0 where
@@ -54,7 +58,10 @@ pub record ShapeSays {C X : Type 0} (family : Family) (inside : List Family)
   pub peer_typed : shape ≡ Peer → (x : X) → m ≡ Ok x → (attribute x).kind ≡ masked a.kind
   pub nest : (inner : Family) → shape ≡ Nested inner → (e : DecodeError) → m ≡ Err e →
       IsNamed inside e
-  pub nest_typed : (inner : Family) → shape ≡ Nested inner → (x : X) → m ≡ Ok x →
+  pub exact : IsExact shape → (e : DecodeError) → m ≡ Err e → e ≡ own_error family a cause.Length
+  pub addresses : IsAddresses shape → (e : DecodeError) → m ≡ Err e →
+      (e ≡ own_error family a cause.Length) ⊎ (e ≡ header_error)
+  pub payload_typed : IsPayloadShape shape → (x : X) → m ≡ Ok x →
       masked (attribute x).kind ≡ masked a.kind
 
 -- a rejection is the attribute's own error, and an attribute of an unknown type is opaque
@@ -67,11 +74,16 @@ LookupSays family inside keeping attribute meaning a (lookup.Refused cause) m =
     m ≡ Err (own_error family a cause)
 LookupSays family inside keeping attribute meaning a lookup.Unknown m = m ≡ Ok (keeping (kept a))
 
--- An attribute of such a type contains no others: its type has a shape of the table, is rejected,
--- or has none.
+-- An attribute of such a type contains neither others nor a peer: its type has the shape of a
+-- single value, is rejected, or has none.
 abbrev pub HoldsNone : Lookup → Type 0
-HoldsNone (lookup.Is shape) = IsPlain shape
+HoldsNone (lookup.Is shape) = IsSingle shape
 HoldsNone _ = Unit {0}
+
+-- an attribute of such a type contains no others
+abbrev pub HoldsNoList : Lookup → Type 0
+HoldsNoList (lookup.Is Peer) = Unit {0}
+HoldsNoList l = HoldsNone l
 
 -- the first attribute of a byte string contains no others, and has this error
 abbrev pub BeginsRejected : {X : Type 0} → (ℕ → Lookup) → (Attribute → Result X DecodeError) →

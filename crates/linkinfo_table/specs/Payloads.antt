@@ -1,21 +1,81 @@
 -- Payloads of types of their own: what such a payload owes, and its errors as those of the
 -- attribute around it.
-use Rattle.std.specs.Prelude.{◌≡◌, ◌≢◌, ℕ, ltb, Bool, true, false, List, Result, Ok, Err}
+use Rattle.std.specs.Prelude.{
+  ◌≡◌,
+  ◌≢◌,
+  ◌⊎◌,
+  ℕ,
+  ltb,
+  Bool,
+  true,
+  false,
+  List,
+  Result,
+  Ok,
+  Err,
+}
+use Rattle.nla_frame.specs.Error.{header_error}
 use Rattle.nla_frame.specs.declared.error.Cause.{Cause}
 use Rattle.nla_frame.specs.declared.error.Cause.TheVariants as cause
 use Rattle.nla_frame.specs.declared.error.DecodeError.{DecodeError}
 use Rattle.nla_frame.specs.declared.error.Family.{Family}
 use Rattle.linkinfo_shapes.specs.declared.shape.Shape.{Shape}
-use Rattle.linkinfo_shapes.specs.declared.shape.Shape.TheVariants.{Nested, Peer}
+use Rattle.linkinfo_shapes.specs.declared.shape.Shape.TheVariants.{
+  BridgeId,
+  CanBitTimingConst,
+  Le16s,
+  Le32s,
+  Le32x8,
+  LePair16,
+  Nested,
+  Peer,
+  SelfList,
+  V4List,
+  V6List,
+}
 use Rattle.linkinfo_table.specs.Codecs.{Codec, IsCodec, PayloadError, Inside, Own}
 use Rattle.linkinfo_table.specs.Named.{IsNamed}
 use Rattle.linkinfo_table.specs.Rows.{labelled}
 
--- the shapes of such payloads: a list of attributes of another family, or a peer
+-- the shapes of records and of arrays of numbers: each accepted payload is canonical
+abbrev pub IsExact : Shape → Type 0
+IsExact BridgeId = Unit {0}
+IsExact LePair16 = Unit {0}
+IsExact Le32x8 = Unit {0}
+IsExact CanBitTimingConst = Unit {0}
+IsExact Le16s = Unit {0}
+IsExact Le32s = Unit {0}
+IsExact _ = ⊥
+
+-- the shapes of lists of addresses
+abbrev pub IsAddresses : Shape → Type 0
+IsAddresses V4List = Unit {0}
+IsAddresses V6List = Unit {0}
+IsAddresses _ = ⊥
+
+-- the shapes of such payloads: a list of attributes of another family, a peer, a record, an array
+-- of numbers, or a list of addresses
 abbrev pub IsPayloadShape : Shape → Type 0
 IsPayloadShape (Nested family) = Unit {0}
 IsPayloadShape Peer = Unit {0}
+IsPayloadShape BridgeId = Unit {0}
+IsPayloadShape LePair16 = Unit {0}
+IsPayloadShape Le32x8 = Unit {0}
+IsPayloadShape CanBitTimingConst = Unit {0}
+IsPayloadShape Le16s = Unit {0}
+IsPayloadShape Le32s = Unit {0}
+IsPayloadShape V4List = Unit {0}
+IsPayloadShape V6List = Unit {0}
 IsPayloadShape _ = ⊥
+
+-- the shapes of attributes that contain neither other attributes nor a peer
+abbrev pub IsSingle : Shape → Type 0
+IsSingle SelfList = ⊥
+IsSingle Peer = ⊥
+IsSingle (Nested family) = ⊥
+IsSingle V4List = ⊥
+IsSingle V6List = ⊥
+IsSingle _ = Unit {0}
 
 -- a payload by its parts
 abbrev pub codec_with : {X : Type 0} → (List ℕ → Result X PayloadError) → (X → List ℕ) →
@@ -32,7 +92,8 @@ codec_with {X = X} means canon holds alike headers needs_memory = record {
 
 -- What such a payload owes: the laws of a codec, and which errors it has. Errors inside a list are
 -- those of the families inside, and a list has no others. The only error of a peer is the cause
--- Peer.
+-- Peer, and that of a record or an array the cause Length, for which no memory is needed. A list of
+-- addresses has the cause Length, or the error of a header.
 pub record IsPayload (shape : Shape) (inside : List Family) (c : Codec) : Type 0 where
   pub shaped : IsPayloadShape shape
   pub codec : IsCodec c
@@ -41,6 +102,10 @@ pub record IsPayload (shape : Shape) (inside : List Family) (c : Codec) : Type 0
       c.means p ≢ Err (Own own)
   pub peer : shape ≡ Peer → (p : List ℕ) (error : PayloadError) → c.means p ≡ Err error →
       error ≡ Own cause.Peer
+  pub exact : IsExact shape → (p : List ℕ) (error : PayloadError) → c.means p ≡ Err error →
+      (error ≡ Own cause.Length) × (c.needs_memory p ≡ false)
+  pub addresses : IsAddresses shape → (p : List ℕ) (error : PayloadError) →
+      c.means p ≡ Err error → (error ≡ Own cause.Length) ⊎ (error ≡ Inside header_error)
 
 -- The number of a row is a masked type, and a peer is written without flag bits.
 abbrev pub is_payload_row : Shape → Bool → ℕ → Bool

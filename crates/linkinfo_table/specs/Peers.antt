@@ -113,4 +113,6 @@ peer_is_payload meaning alike payload well lawful = record {
   named = λ p e h. absurd (never_inside (meaning p) e h);
   nest = λ family e. absurd (peer_no_nest family e);
   peer = λ _ p error h. only_peer (meaning p) error h;
+  exact = λ i. absurd i;
+  addresses = λ i. absurd i;
 }

@@ -24,7 +24,7 @@ use Rattle.nla_frame.specs.declared.error.DecodeError.{DecodeError}
 use Rattle.nla_frame.specs.declared.error.Family.{Family}
 use Rattle.linkinfo_table.specs.ByRows.{members_written_by_rows, written_are_family}
 use Rattle.linkinfo_table.specs.Contents.{Contents, IsContent}
-use Rattle.linkinfo_table.specs.ErrorMemory.{rows_certain, typed_other}
+use Rattle.linkinfo_table.specs.ErrorMemory.{rows_certain, typed_certain}
 use Rattle.linkinfo_table.specs.ErrorNames.{names_first, names_list}
 use Rattle.linkinfo_table.specs.FamilyRows.{FamilyRow, IsFlat, RowOwes, lookup_of}
 use Rattle.linkinfo_table.specs.FamilyRows.{row_of}
@@ -86,7 +86,7 @@ table_lawful other attribute emitted written rows headers inside typed owes keep
           (owes (masked a.kind));
       certain = λ f a e.
           rows_certain f other rows a e
-          (typed_other inside (rows (masked a.kind)) (typed (masked a.kind)));
+          (typed_certain inside (rows (masked a.kind)) (typed (masked a.kind)));
       laws = λ f contents is_set contained.
           written_are_family f other attribute rows emitted written owes keeps_other headers
           quarter inside contents is_set contained;

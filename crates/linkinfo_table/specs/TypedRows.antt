@@ -28,7 +28,19 @@ use Rattle.nla_frame.specs.declared.error.Family.{Family}
 use Rattle.linkinfo_shapes.specs.Shapes.{IsPlain}
 use Rattle.linkinfo_shapes.specs.Table.{found}
 use Rattle.linkinfo_shapes.specs.declared.shape.Shape.{Shape}
-use Rattle.linkinfo_shapes.specs.declared.shape.Shape.TheVariants.{Nested, Peer, SelfList}
+use Rattle.linkinfo_shapes.specs.declared.shape.Shape.TheVariants.{
+  BridgeId,
+  CanBitTimingConst,
+  Le16s,
+  Le32s,
+  Le32x8,
+  LePair16,
+  Nested,
+  Peer,
+  SelfList,
+  V4List,
+  V6List,
+}
 use Rattle.linkinfo_table.specs.Codecs.{Codec, IsCodec, PayloadError}
 use Rattle.linkinfo_table.specs.FamilyRowLaws.{row_if_owes}
 use Rattle.linkinfo_table.specs.FamilyRows.{
@@ -45,7 +57,14 @@ use Rattle.linkinfo_table.specs.FamilyRows.{
   row_of,
 }
 use Rattle.linkinfo_table.specs.Named.{IsNamed, named_after, named_before}
-use Rattle.linkinfo_table.specs.Payloads.{IsPayload, IsPayloadShape, is_payload_row}
+use Rattle.linkinfo_table.specs.Payloads.{
+  IsAddresses,
+  IsExact,
+  IsPayload,
+  IsPayloadShape,
+  IsSingle,
+  is_payload_row,
+}
 use Rattle.linkinfo_table.specs.Rows.{
   alike_in,
   labelled,
@@ -73,7 +92,43 @@ flat_typed inside Absent h = tt
 pub payload_not_plain : (shape : Shape) → IsPayloadShape shape → IsPlain shape → ⊥
 payload_not_plain (Nested family) h plain = plain
 payload_not_plain Peer h plain = plain
+payload_not_plain BridgeId h plain = plain
+payload_not_plain LePair16 h plain = plain
+payload_not_plain Le32x8 h plain = plain
+payload_not_plain CanBitTimingConst h plain = plain
+payload_not_plain Le16s h plain = plain
+payload_not_plain Le32s h plain = plain
+payload_not_plain V4List h plain = plain
+payload_not_plain V6List h plain = plain
 payload_not_plain _ h plain = h
+
+pub exact_not_plain : (shape : Shape) → IsExact shape → IsPlain shape → ⊥
+exact_not_plain BridgeId h plain = plain
+exact_not_plain LePair16 h plain = plain
+exact_not_plain Le32x8 h plain = plain
+exact_not_plain CanBitTimingConst h plain = plain
+exact_not_plain Le16s h plain = plain
+exact_not_plain Le32s h plain = plain
+exact_not_plain _ h plain = h
+
+pub addresses_not_plain : (shape : Shape) → IsAddresses shape → IsPlain shape → ⊥
+addresses_not_plain V4List h plain = plain
+addresses_not_plain V6List h plain = plain
+addresses_not_plain _ h plain = h
+
+-- a payload that contains neither attributes nor a peer is a record or an array
+pub single_exact : (shape : Shape) → IsPayloadShape shape → IsSingle shape → IsExact shape
+single_exact BridgeId h single = tt
+single_exact LePair16 h single = tt
+single_exact Le32x8 h single = tt
+single_exact CanBitTimingConst h single = tt
+single_exact Le16s h single = tt
+single_exact Le32s h single = tt
+single_exact (Nested family) h single = absurd single
+single_exact Peer h single = absurd single
+single_exact V4List h single = absurd single
+single_exact V6List h single = absurd single
+single_exact _ h single = absurd h
 
 pub payload_not_list : (shape : Shape) → IsPayloadShape shape → shape ≡ SelfList → ⊥
 payload_not_list shape h e = subst IsPayloadShape e h
@@ -88,6 +143,8 @@ payload_among shape inside more codec wider payload = record {
   named = λ p e h. wider e (payload.named p e h);
   nest = payload.nest;
   peer = payload.peer;
+  exact = payload.exact;
+  addresses = payload.addresses;
 }
 
 typed_among : {F : Type 0} (inside more : List Family) (r : FamilyRow F) →

@@ -2,7 +2,6 @@
 
 ghost use Rattle.std.specs.Prelude.{
   ◌≡◌,
-  ◌≢◌,
   ◌↔◌,
   ◌==◌,
   ◌&&◌,
@@ -22,12 +21,9 @@ ghost use Rattle.nla_frame.specs.Kept.{attribute_of, kept};
 ghost use Rattle.nla_frame.specs.NlaItems.{nla_items};
 ghost use Rattle.nla_frame.specs.declared.default_nla.DefaultNla.{DefaultNla};
 ghost use Rattle.nla_frame.specs.declared.error.DecodeError.{DecodeError};
-ghost use Rattle.linkinfo_shapes.specs.declared.shape.Shape.TheVariants as shape;
-ghost use Rattle.linkinfo_table.specs.declared.lookup.Lookup.TheVariants as lookup;
 ghost use Rattle.linkinfo_table.specs.Conditions.{opaque_conditions};
 ghost use Rattle.linkinfo_table.specs.FamilyRows.{SameDecoded, SameEncodable};
 ghost use Rattle.linkinfo_table.specs.Named.{EachNamed};
-ghost use Rattle.nla_frame.specs.declared.error.Family.{Family};
 ghost use Rattle.linkinfo_table.specs.declared.decoded.Decoded.{Decoded};
 ghost use Rattle.linkinfo_table.specs.declared.encodable.Encodable.{Encodable};
 ghost use Rattle.linkinfo_table.specs.declared.opaque.Opaque.{Opaque};
@@ -39,7 +35,7 @@ ghost use Rattle.linkinfo_table.specs.Lists.{
   memory_of,
   values,
 };
-ghost use Rattle.linkinfo_table.specs.Lookups.{BeginsRejected, HoldsNone, LookupSays};
+ghost use Rattle.linkinfo_table.specs.Lookups.{BeginsRejected, HoldsNoList, HoldsNone, LookupSays};
 ghost use Rattle.linkinfo_table.specs.Members.{IsFamily};
 ghost use Rattle.linkinfo_table.specs.Readings.{
   FirstHasError,
@@ -113,9 +109,8 @@ pub fn looked_up<F: LinkFamily>(ctx: F::Context)
         (F.lookup ctx (masked a.kind)) (F.meaning ctx a) }
     ensures kept { (nla : DefaultNla) → F.attribute (F.keeping nla) ≡ attribute_of nla }
     ensures own_error { (a : Attribute) (e : DecodeError) →
-        F.lookup ctx (masked a.kind) ≢ lookup.Is shape.SelfList →
-        ((inner : Family) → F.lookup ctx (masked a.kind) ≢ lookup.Is (shape.Nested inner)) →
-        F.meaning ctx a ≡ Err e → (e.family ≡ F.FAMILY) × (e.kind ≡ masked a.kind) }
+        HoldsNoList (F.lookup ctx (masked a.kind)) → F.meaning ctx a ≡ Err e →
+        (e.family ≡ F.FAMILY) × (e.kind ≡ masked a.kind) }
 {}
 
 /// Each error of an attribute, of a list of attributes and of a first attribute either is that of a

@@ -1,4 +1,8 @@
 -- Begin: written by tables/generate from tables/families.
+pub mod Bond
+pub mod BondConditions
+pub mod Can
+pub mod CanConditions
 pub mod Qos
 pub mod QosConditions
 pub mod Vlan
@@ -8,3 +12,4 @@ pub mod Conditions
 pub mod TypedLayer
 pub mod TypedTypes
 pub mod NestedLists
+pub mod PayloadRows

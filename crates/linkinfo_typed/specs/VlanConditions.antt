@@ -1,7 +1,7 @@
 -- Written by tables/generate from tables/vlan.
 -- Which attributes are well formed, by the variant of each, in the data of
 -- `vlan` links.
-use Rattle.std.specs.Prelude.{◌≡◌, ◌≢◌, ◌↔◌, ◌<◌, ◌^◌, Bool, true, false, refl}
+use Rattle.std.specs.Prelude.{◌≡◌, ◌↔◌, ◌<◌, ◌^◌, Bool, true, false, [], ◌∷◌, refl}
 use Rattle.std.specs.List.{AllByRecursion}
 use Rattle.std.proofs.Common.{subst}
 use Rattle.nla_frame.specs.Attribute.{masked}
@@ -17,6 +17,7 @@ use Rattle.linkinfo_table.specs.Conditions.{
 use Rattle.linkinfo_table.specs.FamilyRows.{row_of, table_row}
 use Rattle.linkinfo_table.specs.Lists.{AllWell}
 use Rattle.linkinfo_table.specs.Rows.{WellFormed}
+use Rattle.linkinfo_typed.specs.PayloadRows.{IsBeside}
 use Rattle.linkinfo_numbers.specs.Vlan.{vlan_protocol_table, vlan_protocol_table_holds}
 use Rattle.linkinfo_typed.specs.QosConditions.{vlan_qos_mapping_conditions, vlan_qos_mapping_stated}
 use Rattle.linkinfo_typed.specs.Vlan.{vlan_attribute, vlan_plain, vlan_rows, vlan_from_ingress_qos}
@@ -29,8 +30,7 @@ vlan_conditions (vlan.Flags under) = (under.0.0 < 2 ^ 32) × (under.1.0 < 2 ^ 32
 vlan_conditions (vlan.EgressQos xs) = AllByRecursion vlan_qos_mapping_conditions xs
 vlan_conditions (vlan.IngressQos xs) = AllByRecursion vlan_qos_mapping_conditions xs
 vlan_conditions (vlan.Protocol x) = IsNumber vlan_protocol_table (2 ^ 16) x
-vlan_conditions (vlan.Other d) =
-    (masked d.kind ≢ 3) × ((masked d.kind ≢ 4) × IsUnknown vlan_plain d)
+vlan_conditions (vlan.Other d) = IsBeside (3 ∷ 4 ∷ []) (masked d.kind) (IsUnknown vlan_plain d)
 
 abbrev vlan_is_other : InfoVlan → Bool
 vlan_is_other (vlan.Other d) = true
@@ -53,8 +53,8 @@ vlan_stated = elim [
   | vlan.Protocol x ↦ number_label vlan_protocol_table_holds (2 ^ 16)
       (λ y. vlan.Protocol y) vlan_conditions (λ _ is. is) (λ _ is. is) x
   | vlan.Other d ↦ unknown_after (λ z. vlan.Other z) 3 (masked d.kind)
-      (vlan_rows 3) (vlan_from_ingress_qos (masked d.kind)) d
-      ((masked d.kind ≢ 4) × IsUnknown vlan_plain d)
+      (vlan_rows 3) (vlan_from_ingress_qos (masked d.kind)) d (IsBeside (4 ∷ []) (masked d.kind)
+      (IsUnknown vlan_plain d))
       (λ w. let no : vlan.EgressQos w.0 ≡ vlan.Other d = w.2 in cc) (
       unknown_after (λ z. vlan.Other z) 4 (masked d.kind)
       (vlan_rows 4) ((table_row vlan_plain) (masked d.kind)) d (IsUnknown vlan_plain d)

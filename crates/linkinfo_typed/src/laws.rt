@@ -2,17 +2,38 @@
 
 ghost use Rattle.std.specs.Prelude.{◌≡◌, ◌↔◌, ℕ, [], ◌∷◌};
 // Begin: written by tables/generate from tables/families (conditions).
-ghost use Rattle.linkinfo_typed.specs.Conditions.{vlan_conditions, vlan_qos_mapping_conditions};
+ghost use Rattle.linkinfo_typed.specs.Conditions.{
+  bond_conditions,
+  can_conditions,
+  vlan_conditions,
+  vlan_qos_mapping_conditions,
+};
+// End: written by tables/generate.
+// Begin: written by tables/generate from tables/families (codecs).
+ghost use Rattle.linkinfo_payloads.specs.Payloads.{
+  can_berr_counter_codec,
+  can_bit_timing_codec,
+  can_bit_timing_const_codec,
+  le16s_codec,
+  le32s_codec,
+  v4_list_codec,
+  v6_list_codec,
+};
 // End: written by tables/generate.
 ghost use Rattle.linkinfo_shapes.specs.Typed.{typed_shape_of};
 ghost use Rattle.linkinfo_table.specs.FamilyRows.{lookup_in};
 ghost use Rattle.linkinfo_typed.specs.NestedLists.{HoldsListOf};
+ghost use Rattle.linkinfo_typed.specs.PayloadRows.{HoldsPayload};
 // Begin: written by tables/generate from tables/families (variants).
+ghost use Rattle.linkinfo_typed.specs.declared.bond.InfoBond.TheVariants as bond;
+ghost use Rattle.linkinfo_typed.specs.declared.can.InfoCan.TheVariants as can;
 ghost use Rattle.linkinfo_typed.specs.declared.vlan.InfoVlan.TheVariants as vlan;
 // End: written by tables/generate.
 ghost use Rattle.nla_frame.specs.declared.error.Family.TheVariants as family;
 
 // Begin: written by tables/generate from tables/families (types).
+use crate::bond::InfoBond;
+use crate::can::InfoCan;
 use crate::qos::VlanQosMapping;
 use crate::vlan::InfoVlan;
 // End: written by tables/generate.
@@ -23,6 +44,8 @@ use linkinfo_table::{LinkFamily, ListedFamily};
 /// in lists are of the families inside.
 pub fn named()
     // Begin: written by tables/generate from tables/families (named).
+    ensures bond { ⟦<InfoBond as LinkFamily>⟧.FAMILY ≡ family.Bond }
+    ensures can { ⟦<InfoCan as LinkFamily>⟧.FAMILY ≡ family.Can }
     ensures vlan_qos_mapping { ⟦<VlanQosMapping as LinkFamily>⟧.FAMILY ≡ family.VlanQosMapping }
     ensures vlan { ⟦<InfoVlan as LinkFamily>⟧.FAMILY ≡ family.Vlan }
 // End: written by tables/generate.
@@ -30,9 +53,12 @@ pub fn named()
 
 /// Each family reads a type without flag bits by its row of the table of the typed layer
 /// (`linkinfo_shapes::typed_shape`), and keeps a type without a row.
-#[tactic(auto, using(linkinfo_table::specs::FamilyRowLaws::table_lookup))]
 pub fn tabled()
     // Begin: written by tables/generate from tables/families (tabled).
+    ensures bond { (n : ℕ) →
+        ⟦<InfoBond as LinkFamily>⟧.lookup tt n ≡ lookup_in (typed_shape_of family.Bond n) }
+    ensures can { (n : ℕ) →
+        ⟦<InfoCan as LinkFamily>⟧.lookup tt n ≡ lookup_in (typed_shape_of family.Can n) }
     ensures vlan_qos_mapping { (n : ℕ) →
         ⟦<VlanQosMapping as LinkFamily>⟧.lookup tt n
         ≡ lookup_in (typed_shape_of family.VlanQosMapping n) }
@@ -46,6 +72,8 @@ pub fn tabled()
 /// the range of its type, and each attribute of a list is well formed.
 pub fn well_formed()
     // Begin: written by tables/generate from tables/families (well_formed).
+    ensures bond { (x : InfoBond) → ⟦<InfoBond as LinkFamily>⟧.well tt x ↔ bond_conditions x }
+    ensures can { (x : InfoCan) → ⟦<InfoCan as LinkFamily>⟧.well tt x ↔ can_conditions x }
     ensures vlan_qos_mapping { (x : VlanQosMapping) →
         ⟦<VlanQosMapping as LinkFamily>⟧.well tt x ↔ vlan_qos_mapping_conditions x }
     ensures vlan { (x : InfoVlan) → ⟦<InfoVlan as LinkFamily>⟧.well tt x ↔ vlan_conditions x }
@@ -56,6 +84,8 @@ pub fn well_formed()
 /// attributes may name these.
 pub fn families_inside()
     // Begin: written by tables/generate from tables/families (inside).
+    ensures bond { ⟦<InfoBond as LinkFamily>⟧.inside ≡ [] }
+    ensures can { ⟦<InfoCan as LinkFamily>⟧.inside ≡ [] }
     ensures vlan_qos_mapping { ⟦<VlanQosMapping as LinkFamily>⟧.inside ≡ [] }
     ensures vlan { ⟦<InfoVlan as LinkFamily>⟧.inside
         ≡ family.VlanQosMapping ∷ family.VlanQosMapping ∷ [] }
@@ -71,5 +101,37 @@ pub fn lists_inside()
         (⟦<VlanQosMapping as ListedFamily>⟧.members tt) 3 3 (λ xs. vlan.EgressQos xs) }
     ensures vlan_ingress_qos { HoldsListOf (⟦<InfoVlan as ListedFamily>⟧.members tt)
         (⟦<VlanQosMapping as ListedFamily>⟧.members tt) 4 4 (λ xs. vlan.IngressQos xs) }
+// End: written by tables/generate.
+{}
+
+/// What an attribute holds whose row has a record, an array of numbers or a list of addresses: what
+/// its payload is, or the error in it. It is written with the type of its row, which has
+/// `NLA_F_NESTED` where the table says so, and the canonical payload.
+pub fn payloads_inside()
+    // Begin: written by tables/generate from tables/families (payloads).
+    ensures bond_arp_ip_target { HoldsPayload (⟦<InfoBond as ListedFamily>⟧.members tt)
+        v4_list_codec 8 8 (λ x. bond.ArpIpTarget x) }
+    ensures bond_ns_ip6_target { HoldsPayload (⟦<InfoBond as ListedFamily>⟧.members tt)
+        v6_list_codec 31 32799 (λ x. bond.NsIp6Target x) }
+    ensures can_bit_timing { HoldsPayload (⟦<InfoCan as ListedFamily>⟧.members tt)
+        can_bit_timing_codec 1 1 (λ x. can.BitTiming x) }
+    ensures can_bit_timing_const { HoldsPayload (⟦<InfoCan as ListedFamily>⟧.members tt)
+        can_bit_timing_const_codec 2 2 (λ x. can.BitTimingConst x) }
+    ensures can_berr_counter { HoldsPayload (⟦<InfoCan as ListedFamily>⟧.members tt)
+        can_berr_counter_codec 8 8 (λ x. can.BerrCounter x) }
+    ensures can_data_bit_timing { HoldsPayload (⟦<InfoCan as ListedFamily>⟧.members tt)
+        can_bit_timing_codec 9 9 (λ x. can.DataBitTiming x) }
+    ensures can_data_bit_timing_const { HoldsPayload (⟦<InfoCan as ListedFamily>⟧.members tt)
+        can_bit_timing_const_codec 10 10 (λ x. can.DataBitTimingConst x) }
+    ensures can_termination_const { HoldsPayload (⟦<InfoCan as ListedFamily>⟧.members tt)
+        le16s_codec 12 12 (λ x. can.TerminationConst x) }
+    ensures can_bit_rate_const { HoldsPayload (⟦<InfoCan as ListedFamily>⟧.members tt)
+        le32s_codec 13 13 (λ x. can.BitRateConst x) }
+    ensures can_data_bit_rate_const { HoldsPayload (⟦<InfoCan as ListedFamily>⟧.members tt)
+        le32s_codec 14 14 (λ x. can.DataBitRateConst x) }
+    ensures can_xl_data_bit_timing { HoldsPayload (⟦<InfoCan as ListedFamily>⟧.members tt)
+        can_bit_timing_codec 18 18 (λ x. can.XlDataBitTiming x) }
+    ensures can_xl_data_bit_rate_const { HoldsPayload (⟦<InfoCan as ListedFamily>⟧.members tt)
+        le32s_codec 20 20 (λ x. can.XlDataBitRateConst x) }
 // End: written by tables/generate.
 {}

@@ -3,6 +3,8 @@
 #![tactic(auto)]
 
 // Begin: written by tables/generate from tables/families (modules).
+mod bond;
+mod can;
 mod qos;
 mod vlan;
 // End: written by tables/generate.
@@ -11,6 +13,8 @@ pub mod laws;
 mod layer;
 
 // Begin: written by tables/generate from tables/families (types).
+pub use bond::InfoBond;
+pub use can::InfoCan;
 pub use qos::VlanQosMapping;
 pub use vlan::InfoVlan;
 // End: written by tables/generate.

@@ -13,6 +13,14 @@ pub meant_plain : (sh : Shape) (payload : List ℕ) → IsPlain sh → meant sh 
 meant_plain shape.SelfList payload h = absurd h
 meant_plain shape.Peer payload h = absurd h
 meant_plain (shape.Nested family) payload h = absurd h
+meant_plain shape.BridgeId payload h = absurd h
+meant_plain shape.LePair16 payload h = absurd h
+meant_plain shape.Le32x8 payload h = absurd h
+meant_plain shape.CanBitTimingConst payload h = absurd h
+meant_plain shape.Le16s payload h = absurd h
+meant_plain shape.Le32s payload h = absurd h
+meant_plain shape.V4List payload h = absurd h
+meant_plain shape.V6List payload h = absurd h
 meant_plain _ payload h = refl
 
 pub reads_meant : (sh : Shape) (payload : List ℕ) (r : Result Datum Cause) → IsPlain sh →

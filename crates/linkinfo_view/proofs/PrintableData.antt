@@ -342,6 +342,14 @@ meant_held : (sh : Shape) (payload : List ℕ) → IsBytes payload → IfOk (mea
 meant_held shape.SelfList payload h = h
 meant_held shape.Peer payload h = h
 meant_held (shape.Nested family) payload h = h
+meant_held shape.BridgeId payload h = h
+meant_held shape.LePair16 payload h = h
+meant_held shape.Le32x8 payload h = h
+meant_held shape.CanBitTimingConst payload h = h
+meant_held shape.Le16s payload h = h
+meant_held shape.Le32s payload h = h
+meant_held shape.V4List payload h = h
+meant_held shape.V6List payload h = h
 meant_held sh payload h = reads_held sh payload h
 
 plain_printable : (v : value.Value) → Held v → IsPrintable (plain_data v)

@@ -77,6 +77,14 @@ abbrev pub meant : Shape → List ℕ → Result Value Cause
 meant shape.SelfList payload = Ok (bytes payload)
 meant shape.Peer payload = Ok (bytes payload)
 meant (shape.Nested family) payload = Ok (bytes payload)
+meant shape.BridgeId payload = Ok (bytes payload)
+meant shape.LePair16 payload = Ok (bytes payload)
+meant shape.Le32x8 payload = Ok (bytes payload)
+meant shape.CanBitTimingConst payload = Ok (bytes payload)
+meant shape.Le16s payload = Ok (bytes payload)
+meant shape.Le32s payload = Ok (bytes payload)
+meant shape.V4List payload = Ok (bytes payload)
+meant shape.V6List payload = Ok (bytes payload)
 meant sh payload = reads sh payload
 
 -- a number, and an object of two members

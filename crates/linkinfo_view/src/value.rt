@@ -40,7 +40,17 @@ pub fn datum_of(shape: Shape, payload: &[u8]) -> Result<Datum<'_>, Cause>
     ensures { IsMeant shape payload.now result }
 {
     match shape {
-        Shape::SelfList | Shape::Peer | Shape::Nested(_) => Ok(Datum::Bytes(payload)),
+        Shape::SelfList
+        | Shape::Peer
+        | Shape::Nested(_)
+        | Shape::BridgeId
+        | Shape::LePair16
+        | Shape::Le32x8
+        | Shape::CanBitTimingConst
+        | Shape::Le16s
+        | Shape::Le32s
+        | Shape::V4List
+        | Shape::V6List => Ok(Datum::Bytes(payload)),
         _ => read_datum(shape, payload),
     }
 }

@@ -105,6 +105,7 @@ class Edits(unittest.TestCase):
             "impl<F: RowFamily> LinkFamily for F": "AnyLinkFamily",
             "impl<F: RowFamily> CustomRows<F> for ()": "UnitCustomRows",
             "impl<F, R: PayloadRow<F>, Rest> CustomRows<F> for (R, Rest)": "Tuple2CustomRows",
+            "impl<const N: usize> Fixed for [u8; N]": "ArrayU8Fixed",
             "pub trait Nla": "Nla",
         }.items():
             self.assertEqual(block_name(header), name)

@@ -14,6 +14,7 @@ LIBRARY = (
     "linkinfo_names",
     "linkinfo_messages",
     "linkinfo_table",
+    "linkinfo_payloads",
     "linkinfo_lower",
     "linkinfo_devices",
     "linkinfo_tunnels",

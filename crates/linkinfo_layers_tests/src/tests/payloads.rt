@@ -52,8 +52,7 @@ fn cause_of_zeros(shape: Shape, len: usize) -> Option<Cause> {
         Shape::GeneveV4 => len == 4,
         Shape::GeneveV6 if len == 4 => return Some(Cause::AddressKind),
         Shape::GeneveV6 => len == 16,
-        Shape::Mark | Shape::Name | Shape::Raw | Shape::SelfList | Shape::Peer | Shape::Nested(_) =>
-            true,
+        _ => true,
     };
     if accepted { None } else { Some(Cause::Length) }
 }

@@ -149,12 +149,20 @@ fn value_record(datum: Datum<'_>) -> LinkinfoValue {
 /// The record of the value of a payload whose type has this shape or none.
 fn value_in(shape: Option<Shape>, payload: &[u8]) -> LinkinfoValue {
     match shape {
-        Some(Shape::SelfList | Shape::Nested(_)) => LinkinfoValue {
+        Some(Shape::SelfList | Shape::Nested(_) | Shape::V4List | Shape::V6List) => LinkinfoValue {
             value_type: LIST,
             len: payload.len(),
             ..NO_VALUE
         },
-        Some(Shape::Peer) => value_record(Datum::Bytes(payload)),
+        Some(
+            Shape::Peer
+            | Shape::BridgeId
+            | Shape::LePair16
+            | Shape::Le32x8
+            | Shape::CanBitTimingConst
+            | Shape::Le16s
+            | Shape::Le32s,
+        ) => value_record(Datum::Bytes(payload)),
         _ => match datum_in(shape, payload) {
             Some(datum) => value_record(datum),
             None => NO_VALUE,

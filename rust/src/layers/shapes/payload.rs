@@ -140,7 +140,17 @@ pub fn read_datum(shape: Shape, payload: &[u8]) -> Result<Datum<'_>, Cause> {
         Shape::EmptyOrByte => read_empty_or_byte(payload),
         Shape::Scrub => read_scrub(payload),
         Shape::Raw => read_raw(payload),
-        Shape::SelfList | Shape::Peer | Shape::Nested(_) => unreachable!(),
+        Shape::SelfList
+        | Shape::Peer
+        | Shape::Nested(_)
+        | Shape::BridgeId
+        | Shape::LePair16
+        | Shape::Le32x8
+        | Shape::CanBitTimingConst
+        | Shape::Le16s
+        | Shape::Le32s
+        | Shape::V4List
+        | Shape::V6List => unreachable!(),
     }
 }
 
@@ -267,6 +277,16 @@ pub fn write_datum(shape: Shape, datum: &Datum<'_>, buffer: &mut [u8]) {
         Shape::EmptyOrByte => write_empty_or_byte(datum, buffer),
         Shape::Scrub => write_scrub(datum, buffer),
         Shape::Raw => write_raw(datum, buffer),
-        Shape::SelfList | Shape::Peer | Shape::Nested(_) => unreachable!(),
+        Shape::SelfList
+        | Shape::Peer
+        | Shape::Nested(_)
+        | Shape::BridgeId
+        | Shape::LePair16
+        | Shape::Le32x8
+        | Shape::CanBitTimingConst
+        | Shape::Le16s
+        | Shape::Le32s
+        | Shape::V4List
+        | Shape::V6List => unreachable!(),
     }
 }

@@ -4,6 +4,8 @@
 //! mappings of priorities inside their attributes.
 
 // Begin: written by tables/generate from tables/families (modules).
+mod bond;
+mod can;
 mod qos;
 mod vlan;
 // End: written by tables/generate.
@@ -11,6 +13,8 @@ mod vlan;
 mod layer;
 
 // Begin: written by tables/generate from tables/families (types).
+pub use bond::InfoBond;
+pub use can::InfoCan;
 pub use qos::VlanQosMapping;
 pub use vlan::InfoVlan;
 // End: written by tables/generate.

@@ -2,16 +2,17 @@
 
 //! Typed attributes of `vlan` links, and the mappings of priorities in two of them.
 
+use super::lengths::{has_lists, has_only_length, with_zeros};
 use super::rows::{
     Checked, HEADER, HasExample, HoldsOthers, UNLISTED, assert_is, checks_list, compare_lists,
-    error, has_rows_and_others, has_shapes, is_list_read, is_parsed, is_text, list_is_emitted,
+    has_rows_and_others, has_shapes, is_list_read, is_parsed, is_text, list_is_emitted,
     list_is_written_as, refuses_list,
 };
 use crate::support::*;
 use bitflags::Flags;
 use linkinfo::layers::nla_frame::{Cause, DecodeError, DefaultNla, Family, HeaderCount, Nla, Nlas};
 use linkinfo::layers::numbers::{VlanFlags, VlanProtocol};
-use linkinfo::layers::table::{LinkFamily, Shape, list_read};
+use linkinfo::layers::table::{Shape, list_read};
 use linkinfo::layers::typed::{InfoVlan, VlanQosMapping};
 
 /// Types, and the shapes of their rows.
@@ -202,47 +203,6 @@ fn rejected_lists() {
     }
 }
 
-/// An attribute of a type with a payload of zeros, at most 70.
-fn with_zeros(kind: u8, len: u8, buffer: &mut [u8; 78]) -> usize {
-    assert!(len <= 70);
-    *buffer = [0; 78];
-    buffer[0] = len + 4;
-    buffer[2] = kind;
-    usize::from(len) + 4
-}
-
-/// Asserts that zeros of each length up to 70 are the payload of a type only if they have this
-/// length; any other length is rejected with the cause Length.
-fn has_only_length<F: LinkFamily<Context = ()>>(kind: u8, length: u8) {
-    let mut buffer = [0; 78];
-    for len in 0..=70 {
-        let end = with_zeros(kind, len, &mut buffer);
-        let wanted = if len == length {
-            Ok(())
-        } else {
-            Err(error(F::FAMILY, u16::from(kind), Cause::Length))
-        };
-        let bytes = buffer.get(..end).expect("an attribute");
-        checks_list::<F>((), bytes, (wanted, 1));
-    }
-}
-
-/// Asserts that zeros of each length up to 70, as the payload of a type, are the list of nothing or
-/// no list.
-fn has_lists(kind: u8) {
-    let mut buffer = [0; 78];
-    for len in 0..=70 {
-        let end = with_zeros(kind, len, &mut buffer);
-        let bytes = buffer.get(..end).expect("an attribute");
-        let wanted = match len {
-            0 => (Ok(()), 1),
-            1..=3 => (Err(HEADER), 1),
-            _ => (Err(HEADER), 2),
-        };
-        checks_list::<InfoVlan>((), bytes, wanted);
-    }
-}
-
 /// Asserts that of one attribute in a list of mappings, with zeros of each length up to 66, a
 /// mapping has eight bytes, and an attribute of a type without a row any number of them.
 fn has_mappings(kind: u8) {
@@ -267,7 +227,7 @@ fn every_length() {
     has_only_length::<InfoVlan>(5, 2);
     has_only_length::<VlanQosMapping>(1, 8);
     for kind in [3, 4] {
-        has_lists(kind);
+        has_lists::<InfoVlan>(kind);
         has_mappings(kind);
     }
 }

@@ -11,7 +11,7 @@ use linkinfo::layers::shapes::{Shape, table_shape, typed_shape};
 const ROWS: &[(Family, u16, Option<Shape>)] = &[
     (Family::Frame, 1, None),
     (Family::LinkInfo, 1, None),
-    (Family::Bond, 1, None),
+    (Family::Bridge, 1, None),
     (Family::Gre, 10, Some(Shape::TruthOne)),
     (Family::Gre6, 10, None),
     (Family::IpTunnel, 7, Some(Shape::Be32)),
@@ -31,6 +31,21 @@ const ROWS: &[(Family, u16, Option<Shape>)] = &[
 /// The shapes of some types in the typed layer: those of `ROWS` stay, but for families that are
 /// typed there.
 const TYPED_ROWS: &[(Family, u16, Option<Shape>)] = &[
+    (Family::Bond, 0, None),
+    (Family::Bond, 1, Some(Shape::U8)),
+    (Family::Bond, 8, Some(Shape::V4List)),
+    (Family::Bond, 23, None),
+    (Family::Bond, 31, Some(Shape::V6List)),
+    (Family::Bond, 33, Some(Shape::U8)),
+    (Family::Bond, 34, None),
+    (Family::Can, 1, Some(Shape::Le32x8)),
+    (Family::Can, 2, Some(Shape::CanBitTimingConst)),
+    (Family::Can, 5, Some(Shape::FlagPair)),
+    (Family::Can, 8, Some(Shape::LePair16)),
+    (Family::Can, 12, Some(Shape::Le16s)),
+    (Family::Can, 16, None),
+    (Family::Can, 20, Some(Shape::Le32s)),
+    (Family::Can, 21, None),
     (Family::Vlan, 0, None),
     (Family::Vlan, 1, Some(Shape::Le16)),
     (Family::Vlan, 2, Some(Shape::FlagPair)),

@@ -23,17 +23,37 @@ use Rattle.linkinfo_shapes.specs.Data.{ReadsAs, reads, value_of}
 use Rattle.linkinfo_shapes.specs.Shapes.{IsPlain}
 use Rattle.linkinfo_shapes.specs.declared.datum.Datum.{Datum}
 use Rattle.linkinfo_shapes.specs.declared.shape.Shape.{Shape}
-use Rattle.linkinfo_shapes.specs.declared.shape.Shape.TheVariants.{Nested, Peer, SelfList}
+use Rattle.linkinfo_shapes.specs.declared.shape.Shape.TheVariants.{
+  BridgeId,
+  CanBitTimingConst,
+  Le16s,
+  Le32s,
+  Le32x8,
+  LePair16,
+  Nested,
+  Peer,
+  SelfList,
+  V4List,
+  V6List,
+}
 use Rattle.linkinfo_c.specs.Attributes.{datum_in, value_read}
 use Rattle.linkinfo_c.proofs.attributes.datum_in.Goals as goal
 
--- a list and a peer mean no value
+-- a payload that a family reads itself means no value
 not_plain : (shape : Shape) (payload : List ℕ) → (IsPlain shape → ⊥) →
     value_read (reads shape payload) ≡ None
 unfolding reads
 not_plain SelfList payload h = refl
 not_plain Peer payload h = refl
 not_plain (Nested family) payload h = refl
+not_plain BridgeId payload h = refl
+not_plain LePair16 payload h = refl
+not_plain Le32x8 payload h = refl
+not_plain CanBitTimingConst payload h = refl
+not_plain Le16s payload h = refl
+not_plain Le32s payload h = refl
+not_plain V4List payload h = refl
+not_plain V6List payload h = refl
 not_plain _ payload h = absurd (h tt)
 
 -- any other shape reads as it says

@@ -9,8 +9,8 @@ pub returns-clause-kept : goal.returns-clause-kept
 returns-clause-kept g c = λ nla. g.met.F.LinkFamily.keeps nla
 
 pub returns-clause-own_error : goal.returns-clause-own_error
-returns-clause-own_error g c = λ a e no_list no_nest h.
+returns-clause-own_error g c = λ a e none h.
     own_family g.F.LinkFamily.FAMILY g.F.LinkFamily.inside g.F.LinkFamily.keeping g.F.Nla.attribute
     g.F.LinkFamily.meaning a (g.F.LinkFamily.lookup c.args.ctx (masked a.kind))
-    (g.F.LinkFamily.meaning c.args.ctx a) (g.met.F.LinkFamily.looked_up c.args.ctx a) no_list
-    no_nest e h
+    (g.F.LinkFamily.meaning c.args.ctx a) (g.met.F.LinkFamily.looked_up c.args.ctx a) none e
+    h

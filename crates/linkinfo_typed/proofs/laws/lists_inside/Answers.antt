@@ -7,6 +7,8 @@ use Rattle.linkinfo_typed.proofs.laws.lists_inside.Goals as goal
 -- Begin: written by tables/generate from tables/families (members).
 use Rattle.linkinfo_typed.specs.Qos.{vlan_qos_mapping_members}
 -- End: written by tables/generate.
+-- Begin: written by tables/generate from tables/families (codecs).
+-- End: written by tables/generate.
 -- Begin: written by tables/generate from tables/families (rows).
 use Rattle.linkinfo_typed.specs.Vlan.{vlan_attribute, vlan_rows}
 use Rattle.linkinfo_typed.specs.declared.vlan.InfoVlan.TheVariants as vlan

@@ -1,0 +1,2 @@
+mod AddressSteps
+mod Placing

@@ -1,0 +1,362 @@
+// @generated from crates/linkinfo_payloads/src/records.rt by rust/translate/run.
+
+// Written by tables/generate from tables/records.
+//! Records: payloads with fields at fixed places.
+
+use crate::layers::nla_frame::{DecodeError, ExactEq, Family, HeaderCount};
+use crate::layers::payloads::exact::{
+    ExactPayload, exact_check, exact_len, exact_read, exact_same, exact_write,
+};
+use crate::layers::payloads::fixed::{BigEndian, big_endian};
+use crate::layers::payloads::record::Record;
+use crate::layers::table::LinkPayload;
+
+/// The identifier of a bridge (`struct ifla_bridge_id`), eight bytes.
+#[derive(Clone, Copy, Debug, PartialEq, Eq, Hash, PartialOrd, Ord)]
+pub struct BridgeId {
+    /// The priority, big-endian.
+    pub priority: u16,
+    /// The hardware address.
+    pub address: [u8; 6],
+}
+
+impl ExactEq for BridgeId {}
+
+impl Record for BridgeId {
+    type Fields = (BigEndian, [u8; 6]);
+
+    const LEN: usize = 8;
+
+    fn from_fields(fields: Self::Fields) -> BridgeId {
+        let (priority, address) = fields;
+        BridgeId {
+            priority: priority.number,
+            address,
+        }
+    }
+
+    fn to_fields(&self) -> Self::Fields {
+        (big_endian(self.priority), self.address)
+    }
+}
+
+/// A payload of any other length is rejected with the cause `Length`.
+impl LinkPayload for BridgeId {
+    fn read(
+        payload: &[u8],
+        family: Family,
+        kind: u16,
+        count: &mut HeaderCount,
+    ) -> Result<BridgeId, DecodeError> {
+        exact_read(payload, family, kind, count)
+    }
+
+    fn check(
+        payload: &[u8],
+        family: Family,
+        kind: u16,
+        count: &mut HeaderCount,
+    ) -> Result<(), DecodeError> {
+        exact_check::<BridgeId>(payload, family, kind, count)
+    }
+
+    fn same(a: &[u8], b: &[u8], count: &mut HeaderCount) -> bool {
+        exact_same(a, b, count)
+    }
+
+    fn fit_len(&self) -> Option<usize> {
+        self.fit_payload()
+    }
+
+    fn emit(&self, buffer: &mut [u8]) -> usize {
+        self.to_payload(buffer)
+    }
+
+    fn canonical_len(payload: &[u8]) -> Option<usize> {
+        exact_len::<BridgeId>(payload)
+    }
+
+    fn write_canonical(payload: &[u8], buffer: &mut [u8]) -> usize {
+        exact_write::<BridgeId>(payload, buffer)
+    }
+}
+
+/// The error counters of a CAN bus (`struct can_berr_counter`), four bytes.
+#[derive(Clone, Copy, Debug, PartialEq, Eq, Hash, PartialOrd, Ord)]
+pub struct CanBerrCounter {
+    /// The number of errors in transmission (`txerr`), little-endian.
+    pub transmit: u16,
+    /// The number of errors in reception (`rxerr`), little-endian.
+    pub receive: u16,
+}
+
+impl ExactEq for CanBerrCounter {}
+
+impl Record for CanBerrCounter {
+    type Fields = (u16, u16);
+
+    const LEN: usize = 4;
+
+    fn from_fields(fields: Self::Fields) -> CanBerrCounter {
+        let (transmit, receive) = fields;
+        CanBerrCounter { transmit, receive }
+    }
+
+    fn to_fields(&self) -> Self::Fields {
+        (self.transmit, self.receive)
+    }
+}
+
+/// A payload of any other length is rejected with the cause `Length`.
+impl LinkPayload for CanBerrCounter {
+    fn read(
+        payload: &[u8],
+        family: Family,
+        kind: u16,
+        count: &mut HeaderCount,
+    ) -> Result<CanBerrCounter, DecodeError> {
+        exact_read(payload, family, kind, count)
+    }
+
+    fn check(
+        payload: &[u8],
+        family: Family,
+        kind: u16,
+        count: &mut HeaderCount,
+    ) -> Result<(), DecodeError> {
+        exact_check::<CanBerrCounter>(payload, family, kind, count)
+    }
+
+    fn same(a: &[u8], b: &[u8], count: &mut HeaderCount) -> bool {
+        exact_same(a, b, count)
+    }
+
+    fn fit_len(&self) -> Option<usize> {
+        self.fit_payload()
+    }
+
+    fn emit(&self, buffer: &mut [u8]) -> usize {
+        self.to_payload(buffer)
+    }
+
+    fn canonical_len(payload: &[u8]) -> Option<usize> {
+        exact_len::<CanBerrCounter>(payload)
+    }
+
+    fn write_canonical(payload: &[u8], buffer: &mut [u8]) -> usize {
+        exact_write::<CanBerrCounter>(payload, buffer)
+    }
+}
+
+/// The timing of bits on a CAN bus (`struct can_bittiming`), 32 bytes. A time quantum is the unit
+/// of the lengths of segments.
+#[derive(Clone, Copy, Debug, PartialEq, Eq, Hash, PartialOrd, Ord)]
+pub struct CanBitTiming {
+    /// The bit rate, in bits per second (`bitrate`), little-endian.
+    pub bit_rate: u32,
+    /// The sample point, in tenths of a percent, little-endian.
+    pub sample_point: u32,
+    /// The time quantum, in nanoseconds (`tq`), little-endian.
+    pub time_quantum: u32,
+    /// The length of the propagation segment, in time quanta (`prop_seg`), little-endian.
+    pub propagation_segment: u32,
+    /// The length of the first phase buffer segment (`phase_seg1`), little-endian.
+    pub phase_segment_1: u32,
+    /// The length of the second phase buffer segment (`phase_seg2`), little-endian.
+    pub phase_segment_2: u32,
+    /// The synchronization jump width, in time quanta (`sjw`), little-endian.
+    pub jump_width: u32,
+    /// The prescaler of the bit rate (`brp`), little-endian.
+    pub prescaler: u32,
+}
+
+impl ExactEq for CanBitTiming {}
+
+impl Record for CanBitTiming {
+    type Fields = (((u32, u32), (u32, u32)), ((u32, u32), (u32, u32)));
+
+    const LEN: usize = 32;
+
+    fn from_fields(fields: Self::Fields) -> CanBitTiming {
+        let (
+            ((bit_rate, sample_point), (time_quantum, propagation_segment)),
+            ((phase_segment_1, phase_segment_2), (jump_width, prescaler)),
+        ) = fields;
+        CanBitTiming {
+            bit_rate,
+            sample_point,
+            time_quantum,
+            propagation_segment,
+            phase_segment_1,
+            phase_segment_2,
+            jump_width,
+            prescaler,
+        }
+    }
+
+    fn to_fields(&self) -> Self::Fields {
+        (
+            (
+                (self.bit_rate, self.sample_point),
+                (self.time_quantum, self.propagation_segment),
+            ),
+            (
+                (self.phase_segment_1, self.phase_segment_2),
+                (self.jump_width, self.prescaler),
+            ),
+        )
+    }
+}
+
+/// A payload of any other length is rejected with the cause `Length`.
+impl LinkPayload for CanBitTiming {
+    fn read(
+        payload: &[u8],
+        family: Family,
+        kind: u16,
+        count: &mut HeaderCount,
+    ) -> Result<CanBitTiming, DecodeError> {
+        exact_read(payload, family, kind, count)
+    }
+
+    fn check(
+        payload: &[u8],
+        family: Family,
+        kind: u16,
+        count: &mut HeaderCount,
+    ) -> Result<(), DecodeError> {
+        exact_check::<CanBitTiming>(payload, family, kind, count)
+    }
+
+    fn same(a: &[u8], b: &[u8], count: &mut HeaderCount) -> bool {
+        exact_same(a, b, count)
+    }
+
+    fn fit_len(&self) -> Option<usize> {
+        self.fit_payload()
+    }
+
+    fn emit(&self, buffer: &mut [u8]) -> usize {
+        self.to_payload(buffer)
+    }
+
+    fn canonical_len(payload: &[u8]) -> Option<usize> {
+        exact_len::<CanBitTiming>(payload)
+    }
+
+    fn write_canonical(payload: &[u8], buffer: &mut [u8]) -> usize {
+        exact_write::<CanBitTiming>(payload, buffer)
+    }
+}
+
+/// The limits of the timing of bits (`struct can_bittiming_const`), 48 bytes.
+#[derive(Clone, Copy, Debug, PartialEq, Eq, Hash, PartialOrd, Ord)]
+pub struct CanBitTimingConst {
+    /// The name of the controller, which ends at the first zero byte.
+    pub name: [u8; 16],
+    /// The least length of the segment before the sample (`tseg1_min`), little-endian.
+    pub segment_1_min: u32,
+    /// The greatest length of that segment (`tseg1_max`), little-endian.
+    pub segment_1_max: u32,
+    /// The least length of the segment after it (`tseg2_min`), little-endian.
+    pub segment_2_min: u32,
+    /// The greatest length of that segment (`tseg2_max`), little-endian.
+    pub segment_2_max: u32,
+    /// The greatest synchronization jump width (`sjw_max`), little-endian.
+    pub jump_width_max: u32,
+    /// The least prescaler (`brp_min`), little-endian.
+    pub prescaler_min: u32,
+    /// The greatest prescaler (`brp_max`), little-endian.
+    pub prescaler_max: u32,
+    /// The step between prescalers (`brp_inc`), little-endian.
+    pub prescaler_increment: u32,
+}
+
+impl ExactEq for CanBitTimingConst {}
+
+impl Record for CanBitTimingConst {
+    type Fields = (
+        [u8; 16],
+        (((u32, u32), (u32, u32)), ((u32, u32), (u32, u32))),
+    );
+
+    const LEN: usize = 48;
+
+    fn from_fields(fields: Self::Fields) -> CanBitTimingConst {
+        let (
+            name,
+            (
+                ((segment_1_min, segment_1_max), (segment_2_min, segment_2_max)),
+                ((jump_width_max, prescaler_min), (prescaler_max, prescaler_increment)),
+            ),
+        ) = fields;
+        CanBitTimingConst {
+            name,
+            segment_1_min,
+            segment_1_max,
+            segment_2_min,
+            segment_2_max,
+            jump_width_max,
+            prescaler_min,
+            prescaler_max,
+            prescaler_increment,
+        }
+    }
+
+    fn to_fields(&self) -> Self::Fields {
+        (
+            self.name,
+            (
+                (
+                    (self.segment_1_min, self.segment_1_max),
+                    (self.segment_2_min, self.segment_2_max),
+                ),
+                (
+                    (self.jump_width_max, self.prescaler_min),
+                    (self.prescaler_max, self.prescaler_increment),
+                ),
+            ),
+        )
+    }
+}
+
+/// A payload of any other length is rejected with the cause `Length`.
+impl LinkPayload for CanBitTimingConst {
+    fn read(
+        payload: &[u8],
+        family: Family,
+        kind: u16,
+        count: &mut HeaderCount,
+    ) -> Result<CanBitTimingConst, DecodeError> {
+        exact_read(payload, family, kind, count)
+    }
+
+    fn check(
+        payload: &[u8],
+        family: Family,
+        kind: u16,
+        count: &mut HeaderCount,
+    ) -> Result<(), DecodeError> {
+        exact_check::<CanBitTimingConst>(payload, family, kind, count)
+    }
+
+    fn same(a: &[u8], b: &[u8], count: &mut HeaderCount) -> bool {
+        exact_same(a, b, count)
+    }
+
+    fn fit_len(&self) -> Option<usize> {
+        self.fit_payload()
+    }
+
+    fn emit(&self, buffer: &mut [u8]) -> usize {
+        self.to_payload(buffer)
+    }
+
+    fn canonical_len(payload: &[u8]) -> Option<usize> {
+        exact_len::<CanBitTimingConst>(payload)
+    }
+
+    fn write_canonical(payload: &[u8], buffer: &mut [u8]) -> usize {
+        exact_write::<CanBitTimingConst>(payload, buffer)
+    }
+}
