@@ -24,6 +24,7 @@ ghost use Rattle.nla_frame.specs.declared.error.Cause.TheVariants as cause;
 ghost use Rattle.linkinfo_shapes.specs.declared.shape.Shape.{Shape};
 ghost use Rattle.linkinfo_shapes.specs.declared.shape.Shape.TheVariants as shape;
 ghost use Rattle.linkinfo_table.specs.Calls.{Checks, Compares, Reads};
+ghost use Rattle.linkinfo_table.specs.Contents.{NoList};
 ghost use Rattle.linkinfo_table.specs.Lists.{AllWell, alike_pairs};
 ghost use Rattle.linkinfo_table.specs.Payloads.{IsAddresses, placed};
 ghost use Rattle.linkinfo_payloads.specs.Addresses.{
@@ -37,7 +38,9 @@ ghost use Rattle.linkinfo_payloads.specs.Addresses.{
 
 use crate::exact::refused;
 use crate::fixed::Fixed;
-use linkinfo_table::{LinkPayload, Shape};
+use linkinfo_table::{
+    Difference, LinkPayload, PlacedNla, Shape, Unmet, unmet_as_whole, whole_difference, whole_error,
+};
 use nla_frame::{
     DecodeError, ExactEq, Family, HeaderCount, fitting, next_attribute, write_bytes_attribute,
     write_frame,
@@ -197,6 +200,10 @@ impl<A: Address> LinkPayload for Addresses<A> {
 
     ghost needs_memory = { λ p. address_memory A.WIDTH (nla_items p) };
 
+    ghost contents = { NoList };
+
+    ghost contained = { tt };
+
     ghost lawful = { address_payload A.WIDTH A.value_of A.bytes_of A.holds A.fixed A.aligned A.some
         A.short A.Address.shape A.Address.of_shape };
 
@@ -237,6 +244,22 @@ impl<A: Address> LinkPayload for Addresses<A> {
 
     fn write_canonical(payload: &[u8], buffer: &mut [u8]) -> usize {
         address_write::<A>(payload, buffer)
+    }
+
+    fn error_offset(payload: &[u8]) -> Option<usize> {
+        whole_error(address_check::<A>(payload, Family::Frame, 0, &mut HeaderCount::new()))
+    }
+
+    fn difference(family: Family, a: &PlacedNla<'_>, b: &PlacedNla<'_>) -> Option<Difference> {
+        let (p, q) = (a.nla.value(), b.nla.value());
+        let is_same = address_same::<A>(p, q, &mut HeaderCount::new());
+        whole_difference(family, is_same, a, b)
+    }
+
+    fn unmet(family: Family, have: &PlacedNla<'_>, want: &PlacedNla<'_>) -> Option<Unmet> {
+        let (p, q) = (have.nla.value(), want.nla.value());
+        let is_met = p == q || address_same::<A>(p, q, &mut HeaderCount::new());
+        unmet_as_whole(family, is_met, have, want)
     }
 }
 

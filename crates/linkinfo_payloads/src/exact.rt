@@ -7,13 +7,16 @@ ghost use Rattle.std.specs.Prelude.{
   ◌^◌,
   ◌<◌,
   ℕ,
+  ◌||◌,
   Bool,
   false,
   true,
   IfOk,
+  IfSome,
   IsOk,
   List,
   SomeIff,
+  is_ok,
   length,
 };
 ghost use Rattle.std.specs.Str.{bytes_eq};
@@ -24,10 +27,18 @@ ghost use Rattle.nla_frame.specs.declared.error.Cause.TheVariants as cause;
 ghost use Rattle.nla_frame.specs.Writing.{Writes};
 ghost use Rattle.linkinfo_shapes.specs.declared.shape.Shape.{Shape};
 ghost use Rattle.linkinfo_table.specs.Calls.{Checks, Compares, Reads};
+ghost use Rattle.linkinfo_table.specs.Contents.{NoList};
+ghost use Rattle.linkinfo_table.specs.Difference.{
+  IsWithin,
+  end_of,
+  payload_difference,
+  payload_error,
+};
 ghost use Rattle.linkinfo_table.specs.Payloads.{IsExact, placed};
+ghost use Rattle.linkinfo_table.specs.Unmet.{IsUnmetWithin, payload_unmet};
 ghost use Rattle.linkinfo_payloads.specs.Exact.{IsExactly, exact_means};
 
-use linkinfo_table::Shape;
+use linkinfo_table::{Difference, PlacedNla, Shape, Unmet, unmet_as_whole, whole_difference};
 use nla_frame::{Cause, DecodeError, ExactEq, Family, HeaderCount, fitting, write_bytes};
 use std::alloc::{AllocError, Global};
 
@@ -149,6 +160,45 @@ pub fn exact_write<T: ExactPayload>(payload: &[u8], buffer: &mut [u8]) -> usize
         buffer.old buffer.new result }
 {
     write_bytes(payload, buffer)
+}
+
+/// Returns the offset of the error of an attribute with this payload, from the attribute's header,
+/// which is 0, or `None` if the payload is accepted. Does not allocate.
+pub fn exact_error<T: ExactPayload>(payload: &[u8]) -> Option<usize>
+    ensures error { result
+        ≡ payload_error NoList (is_ok (exact_means T.accepted T.value_of payload.now))
+        payload.now }
+    ensures within { IfSome result (λ n. n ≤ 4 + length payload.now) }
+{
+    if T::accepts(payload.len()) {
+        None
+    } else {
+        Some(0)
+    }
+}
+
+/// Returns the difference of two attributes as a whole, or `None` if their payloads are equal. Does
+/// not allocate.
+pub fn exact_difference(family: Family, a: &PlacedNla<'_>, b: &PlacedNla<'_>) -> Option<Difference>
+    ensures difference { result
+        ≡ payload_difference NoList family (bytes_eq a.now.nla.value b.now.nla.value)
+        a.now b.now }
+    ensures within { IfSome result (IsWithin (end_of a.now) (end_of b.now)) }
+{
+    whole_difference(family, a.nla.value() == b.nla.value(), a, b)
+}
+
+/// Returns the attribute `want` as a whole if its payload is not that of `have`, and `None` if it
+/// is. Does not allocate.
+pub fn exact_unmet(family: Family, have: &PlacedNla<'_>, want: &PlacedNla<'_>) -> Option<Unmet>
+    ensures unmet { result
+        ≡ payload_unmet NoList family
+        (bytes_eq have.now.nla.value want.now.nla.value
+        || bytes_eq have.now.nla.value want.now.nla.value)
+        have.now want.now }
+    ensures within { IfSome result (IsUnmetWithin (end_of want.now) (end_of have.now)) }
+{
+    unmet_as_whole(family, have.nla.value() == want.nla.value(), have, want)
 }
 
 /// The error of a payload of another length.

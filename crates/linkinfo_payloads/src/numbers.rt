@@ -6,6 +6,7 @@ ghost use Rattle.std.specs.List.{AllByRecursion, flat_map};
 ghost use Rattle.nla_frame.specs.Writing.{Writes};
 ghost use Rattle.linkinfo_shapes.specs.declared.shape.Shape.{Shape};
 ghost use Rattle.linkinfo_shapes.specs.declared.shape.Shape.TheVariants as shape;
+ghost use Rattle.linkinfo_table.specs.Contents.{NoList};
 ghost use Rattle.linkinfo_table.specs.Payloads.{IsExact};
 ghost use Rattle.std.specs.Str.{bytes_eq};
 ghost use Rattle.linkinfo_payloads.specs.Arrays.{
@@ -18,9 +19,12 @@ ghost use Rattle.linkinfo_payloads.specs.Arrays.{
 };
 ghost use Rattle.linkinfo_payloads.specs.Exact.{exact_means, exact_payload};
 
-use crate::exact::{ExactPayload, exact_check, exact_len, exact_read, exact_same, exact_write};
+use crate::exact::{
+    ExactPayload, exact_check, exact_difference, exact_error, exact_len, exact_read, exact_same,
+    exact_unmet, exact_write,
+};
 use crate::fixed::Fixed;
-use linkinfo_table::{LinkPayload, Shape};
+use linkinfo_table::{Difference, LinkPayload, PlacedNla, Shape, Unmet};
 use nla_frame::{DecodeError, ExactEq, Family, HeaderCount, fitting};
 use std::alloc::{AllocError, Global};
 use std::marker::Model;
@@ -228,6 +232,10 @@ impl<N: Number> LinkPayload for Numbers<N> {
 
     ghost needs_memory = { array_memory N.WIDTH };
 
+    ghost contents = { NoList };
+
+    ghost contained = { tt };
+
     ghost lawful = { exact_payload (is_multiple N.WIDTH) (array_of N.WIDTH N.value_of)
         (λ xs. flat_map N.bytes_of xs) (λ xs. AllByRecursion N.holds xs) (array_memory N.WIDTH)
         (array_exactly N.WIDTH N.value_of N.bytes_of N.holds N.positive N.fixed) N.Number.shape
@@ -270,5 +278,17 @@ impl<N: Number> LinkPayload for Numbers<N> {
 
     fn write_canonical(payload: &[u8], buffer: &mut [u8]) -> usize {
         exact_write::<Numbers<N>>(payload, buffer)
+    }
+
+    fn error_offset(payload: &[u8]) -> Option<usize> {
+        exact_error::<Numbers<N>>(payload)
+    }
+
+    fn difference(family: Family, a: &PlacedNla<'_>, b: &PlacedNla<'_>) -> Option<Difference> {
+        exact_difference(family, a, b)
+    }
+
+    fn unmet(family: Family, have: &PlacedNla<'_>, want: &PlacedNla<'_>) -> Option<Unmet> {
+        exact_unmet(family, have, want)
     }
 }

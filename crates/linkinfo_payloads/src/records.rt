@@ -3,6 +3,7 @@
 
 ghost use Rattle.std.specs.Prelude.{[], refl};
 ghost use Rattle.linkinfo_shapes.specs.declared.shape.Shape.TheVariants as shape;
+ghost use Rattle.linkinfo_table.specs.Contents.{NoList};
 ghost use Rattle.linkinfo_payloads.specs.Records.{
   bridge_id_codec,
   bridge_id_fields,
@@ -26,10 +27,13 @@ ghost use Rattle.linkinfo_payloads.specs.Records.{
   can_bit_timing_payload,
 };
 
-use crate::exact::{ExactPayload, exact_check, exact_len, exact_read, exact_same, exact_write};
+use crate::exact::{
+    ExactPayload, exact_check, exact_difference, exact_error, exact_len, exact_read, exact_same,
+    exact_unmet, exact_write,
+};
 use crate::fixed::{BigEndian, big_endian};
 use crate::record::Record;
-use linkinfo_table::LinkPayload;
+use linkinfo_table::{Difference, LinkPayload, PlacedNla, Unmet};
 use nla_frame::{DecodeError, ExactEq, Family, HeaderCount};
 use std::alloc::Global;
 
@@ -106,6 +110,10 @@ impl LinkPayload for BridgeId {
 
     ghost needs_memory = { bridge_id_codec.needs_memory };
 
+    ghost contents = { NoList };
+
+    ghost contained = { tt };
+
     ghost lawful = { bridge_id_payload };
 
     fn read(
@@ -145,6 +153,18 @@ impl LinkPayload for BridgeId {
 
     fn write_canonical(payload: &[u8], buffer: &mut [u8]) -> usize {
         exact_write::<BridgeId>(payload, buffer)
+    }
+
+    fn error_offset(payload: &[u8]) -> Option<usize> {
+        exact_error::<BridgeId>(payload)
+    }
+
+    fn difference(family: Family, a: &PlacedNla<'_>, b: &PlacedNla<'_>) -> Option<Difference> {
+        exact_difference(family, a, b)
+    }
+
+    fn unmet(family: Family, have: &PlacedNla<'_>, want: &PlacedNla<'_>) -> Option<Unmet> {
+        exact_unmet(family, have, want)
     }
 }
 
@@ -218,6 +238,10 @@ impl LinkPayload for CanBerrCounter {
 
     ghost needs_memory = { can_berr_counter_codec.needs_memory };
 
+    ghost contents = { NoList };
+
+    ghost contained = { tt };
+
     ghost lawful = { can_berr_counter_payload };
 
     fn read(
@@ -257,6 +281,18 @@ impl LinkPayload for CanBerrCounter {
 
     fn write_canonical(payload: &[u8], buffer: &mut [u8]) -> usize {
         exact_write::<CanBerrCounter>(payload, buffer)
+    }
+
+    fn error_offset(payload: &[u8]) -> Option<usize> {
+        exact_error::<CanBerrCounter>(payload)
+    }
+
+    fn difference(family: Family, a: &PlacedNla<'_>, b: &PlacedNla<'_>) -> Option<Difference> {
+        exact_difference(family, a, b)
+    }
+
+    fn unmet(family: Family, have: &PlacedNla<'_>, want: &PlacedNla<'_>) -> Option<Unmet> {
+        exact_unmet(family, have, want)
     }
 }
 
@@ -364,6 +400,10 @@ impl LinkPayload for CanBitTiming {
 
     ghost needs_memory = { can_bit_timing_codec.needs_memory };
 
+    ghost contents = { NoList };
+
+    ghost contained = { tt };
+
     ghost lawful = { can_bit_timing_payload };
 
     fn read(
@@ -403,6 +443,18 @@ impl LinkPayload for CanBitTiming {
 
     fn write_canonical(payload: &[u8], buffer: &mut [u8]) -> usize {
         exact_write::<CanBitTiming>(payload, buffer)
+    }
+
+    fn error_offset(payload: &[u8]) -> Option<usize> {
+        exact_error::<CanBitTiming>(payload)
+    }
+
+    fn difference(family: Family, a: &PlacedNla<'_>, b: &PlacedNla<'_>) -> Option<Difference> {
+        exact_difference(family, a, b)
+    }
+
+    fn unmet(family: Family, have: &PlacedNla<'_>, want: &PlacedNla<'_>) -> Option<Unmet> {
+        exact_unmet(family, have, want)
     }
 }
 
@@ -521,6 +573,10 @@ impl LinkPayload for CanBitTimingConst {
 
     ghost needs_memory = { can_bit_timing_const_codec.needs_memory };
 
+    ghost contents = { NoList };
+
+    ghost contained = { tt };
+
     ghost lawful = { can_bit_timing_const_payload };
 
     fn read(
@@ -560,5 +616,17 @@ impl LinkPayload for CanBitTimingConst {
 
     fn write_canonical(payload: &[u8], buffer: &mut [u8]) -> usize {
         exact_write::<CanBitTimingConst>(payload, buffer)
+    }
+
+    fn error_offset(payload: &[u8]) -> Option<usize> {
+        exact_error::<CanBitTimingConst>(payload)
+    }
+
+    fn difference(family: Family, a: &PlacedNla<'_>, b: &PlacedNla<'_>) -> Option<Difference> {
+        exact_difference(family, a, b)
+    }
+
+    fn unmet(family: Family, have: &PlacedNla<'_>, want: &PlacedNla<'_>) -> Option<Unmet> {
+        exact_unmet(family, have, want)
     }
 }

@@ -9,7 +9,9 @@ use crate::layers::nla_frame::{
 };
 use crate::layers::payloads::exact::refused;
 use crate::layers::payloads::fixed::Fixed;
-use crate::layers::table::LinkPayload;
+use crate::layers::table::{
+    Difference, LinkPayload, PlacedNla, Unmet, unmet_as_whole, whole_difference, whole_error,
+};
 use alloc::vec::Vec;
 use core::net::{Ipv4Addr, Ipv6Addr};
 
@@ -101,6 +103,27 @@ impl<A: Address> LinkPayload for Addresses<A> {
 
     fn write_canonical(payload: &[u8], buffer: &mut [u8]) -> usize {
         address_write::<A>(payload, buffer)
+    }
+
+    fn error_offset(payload: &[u8]) -> Option<usize> {
+        whole_error(address_check::<A>(
+            payload,
+            Family::Frame,
+            0,
+            &mut HeaderCount::new(),
+        ))
+    }
+
+    fn difference(family: Family, a: &PlacedNla<'_>, b: &PlacedNla<'_>) -> Option<Difference> {
+        let (p, q) = (a.nla.value(), b.nla.value());
+        let is_same = address_same::<A>(p, q, &mut HeaderCount::new());
+        whole_difference(family, is_same, a, b)
+    }
+
+    fn unmet(family: Family, have: &PlacedNla<'_>, want: &PlacedNla<'_>) -> Option<Unmet> {
+        let (p, q) = (have.nla.value(), want.nla.value());
+        let is_met = p == q || address_same::<A>(p, q, &mut HeaderCount::new());
+        unmet_as_whole(family, is_met, have, want)
     }
 }
 

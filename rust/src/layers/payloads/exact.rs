@@ -6,6 +6,7 @@ use crate::compat::AllocError;
 use crate::layers::nla_frame::{
     Cause, DecodeError, ExactEq, Family, HeaderCount, fitting, write_bytes,
 };
+use crate::layers::table::{Difference, PlacedNla, Unmet, unmet_as_whole, whole_difference};
 
 /// A value of which each payload is canonical. Whether a payload is accepted is a matter of its
 /// length.
@@ -93,6 +94,35 @@ pub fn exact_len<T: ExactPayload>(payload: &[u8]) -> Option<usize> {
 /// not panic then, the result has no meaning.
 pub fn exact_write<T: ExactPayload>(payload: &[u8], buffer: &mut [u8]) -> usize {
     write_bytes(payload, buffer)
+}
+
+/// Returns the offset of the error of an attribute with this payload, from the attribute's header,
+/// which is 0, or `None` if the payload is accepted. Does not allocate.
+#[must_use]
+pub fn exact_error<T: ExactPayload>(payload: &[u8]) -> Option<usize> {
+    if T::accepts(payload.len()) {
+        None
+    } else {
+        Some(0)
+    }
+}
+
+/// Returns the difference of two attributes as a whole, or `None` if their payloads are equal. Does
+/// not allocate.
+#[must_use]
+pub fn exact_difference(
+    family: Family,
+    a: &PlacedNla<'_>,
+    b: &PlacedNla<'_>,
+) -> Option<Difference> {
+    whole_difference(family, a.nla.value() == b.nla.value(), a, b)
+}
+
+/// Returns the attribute `want` as a whole if its payload is not that of `have`, and `None` if it
+/// is. Does not allocate.
+#[must_use]
+pub fn exact_unmet(family: Family, have: &PlacedNla<'_>, want: &PlacedNla<'_>) -> Option<Unmet> {
+    unmet_as_whole(family, have.nla.value() == want.nla.value(), have, want)
 }
 
 /// The error of a payload of another length.

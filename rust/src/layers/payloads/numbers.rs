@@ -6,10 +6,11 @@ use crate::compat::AllocError;
 use crate::compat::TryVec;
 use crate::layers::nla_frame::{DecodeError, ExactEq, Family, HeaderCount, fitting};
 use crate::layers::payloads::exact::{
-    ExactPayload, exact_check, exact_len, exact_read, exact_same, exact_write,
+    ExactPayload, exact_check, exact_difference, exact_error, exact_len, exact_read, exact_same,
+    exact_unmet, exact_write,
 };
 use crate::layers::payloads::fixed::Fixed;
-use crate::layers::table::LinkPayload;
+use crate::layers::table::{Difference, LinkPayload, PlacedNla, Unmet};
 use alloc::vec::Vec;
 
 /// A number that arrays have.
@@ -141,5 +142,17 @@ impl<N: Number> LinkPayload for Numbers<N> {
 
     fn write_canonical(payload: &[u8], buffer: &mut [u8]) -> usize {
         exact_write::<Numbers<N>>(payload, buffer)
+    }
+
+    fn error_offset(payload: &[u8]) -> Option<usize> {
+        exact_error::<Numbers<N>>(payload)
+    }
+
+    fn difference(family: Family, a: &PlacedNla<'_>, b: &PlacedNla<'_>) -> Option<Difference> {
+        exact_difference(family, a, b)
+    }
+
+    fn unmet(family: Family, have: &PlacedNla<'_>, want: &PlacedNla<'_>) -> Option<Unmet> {
+        exact_unmet(family, have, want)
     }
 }

@@ -5,11 +5,12 @@
 
 use crate::layers::nla_frame::{DecodeError, ExactEq, Family, HeaderCount};
 use crate::layers::payloads::exact::{
-    ExactPayload, exact_check, exact_len, exact_read, exact_same, exact_write,
+    ExactPayload, exact_check, exact_difference, exact_error, exact_len, exact_read, exact_same,
+    exact_unmet, exact_write,
 };
 use crate::layers::payloads::fixed::{BigEndian, big_endian};
 use crate::layers::payloads::record::Record;
-use crate::layers::table::LinkPayload;
+use crate::layers::table::{Difference, LinkPayload, PlacedNla, Unmet};
 
 /// The identifier of a bridge (`struct ifla_bridge_id`), eight bytes.
 #[derive(Clone, Copy, Debug, PartialEq, Eq, Hash, PartialOrd, Ord)]
@@ -79,6 +80,18 @@ impl LinkPayload for BridgeId {
     fn write_canonical(payload: &[u8], buffer: &mut [u8]) -> usize {
         exact_write::<BridgeId>(payload, buffer)
     }
+
+    fn error_offset(payload: &[u8]) -> Option<usize> {
+        exact_error::<BridgeId>(payload)
+    }
+
+    fn difference(family: Family, a: &PlacedNla<'_>, b: &PlacedNla<'_>) -> Option<Difference> {
+        exact_difference(family, a, b)
+    }
+
+    fn unmet(family: Family, have: &PlacedNla<'_>, want: &PlacedNla<'_>) -> Option<Unmet> {
+        exact_unmet(family, have, want)
+    }
 }
 
 /// The error counters of a CAN bus (`struct can_berr_counter`), four bytes.
@@ -145,6 +158,18 @@ impl LinkPayload for CanBerrCounter {
 
     fn write_canonical(payload: &[u8], buffer: &mut [u8]) -> usize {
         exact_write::<CanBerrCounter>(payload, buffer)
+    }
+
+    fn error_offset(payload: &[u8]) -> Option<usize> {
+        exact_error::<CanBerrCounter>(payload)
+    }
+
+    fn difference(family: Family, a: &PlacedNla<'_>, b: &PlacedNla<'_>) -> Option<Difference> {
+        exact_difference(family, a, b)
+    }
+
+    fn unmet(family: Family, have: &PlacedNla<'_>, want: &PlacedNla<'_>) -> Option<Unmet> {
+        exact_unmet(family, have, want)
     }
 }
 
@@ -246,6 +271,18 @@ impl LinkPayload for CanBitTiming {
 
     fn write_canonical(payload: &[u8], buffer: &mut [u8]) -> usize {
         exact_write::<CanBitTiming>(payload, buffer)
+    }
+
+    fn error_offset(payload: &[u8]) -> Option<usize> {
+        exact_error::<CanBitTiming>(payload)
+    }
+
+    fn difference(family: Family, a: &PlacedNla<'_>, b: &PlacedNla<'_>) -> Option<Difference> {
+        exact_difference(family, a, b)
+    }
+
+    fn unmet(family: Family, have: &PlacedNla<'_>, want: &PlacedNla<'_>) -> Option<Unmet> {
+        exact_unmet(family, have, want)
     }
 }
 
@@ -358,5 +395,17 @@ impl LinkPayload for CanBitTimingConst {
 
     fn write_canonical(payload: &[u8], buffer: &mut [u8]) -> usize {
         exact_write::<CanBitTimingConst>(payload, buffer)
+    }
+
+    fn error_offset(payload: &[u8]) -> Option<usize> {
+        exact_error::<CanBitTimingConst>(payload)
+    }
+
+    fn difference(family: Family, a: &PlacedNla<'_>, b: &PlacedNla<'_>) -> Option<Difference> {
+        exact_difference(family, a, b)
+    }
+
+    fn unmet(family: Family, have: &PlacedNla<'_>, want: &PlacedNla<'_>) -> Option<Unmet> {
+        exact_unmet(family, have, want)
     }
 }
