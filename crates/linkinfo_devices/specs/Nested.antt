@@ -42,7 +42,8 @@ use Rattle.nla_frame.specs.declared.error.Family.{Family}
 use Rattle.nla_frame.specs.declared.error.DecodeError.{DecodeError}
 use Rattle.nla_frame.specs.declared.default_nla.DefaultNla.{DefaultNla}
 use Rattle.linkinfo_shapes.specs.declared.shape.Shape.TheVariants as shape
-use Rattle.linkinfo_table.specs.Contents.{Contents, IsContent, ListOf, Listed, NoList, each_accepted}
+use Rattle.linkinfo_table.specs.Contents.{Contents, IsContent, ListOf, Listed, NoList}
+use Rattle.linkinfo_table.specs.Contents.{each_accepted}
 use Rattle.linkinfo_table.specs.ListPayload.{values_accepted}
 use Rattle.linkinfo_table.specs.OneType.{rows_type}
 use Rattle.linkinfo_table.specs.TypedRows.{flat_typed}

@@ -1,5 +1,6 @@
 -- What finding the first unmet attribute rests on.
-use Rattle.std.specs.Prelude.{◌≡◌, ℕ, ◌==◌, ◌+◌, ◌<◌, ◌≤◌, ◌^◌, ◌&&◌, Bool, true, false, nat_lt, List, ◌∷◌, length, refl}
+use Rattle.std.specs.Prelude.{◌≡◌, ℕ, ◌==◌, ◌+◌, ◌<◌, ◌≤◌, ◌^◌, ◌&&◌}
+use Rattle.std.specs.Prelude.{Bool, true, false, nat_lt, List, ◌∷◌, length, refl}
 use Rattle.std.specs.Prelude.{Option, None, Some, Result, IsOk, IfSome}
 use Rattle.std.specs.List.{AllByRecursion, list_any}
 use Rattle.std.specs.Option.{option_eq, option_map}

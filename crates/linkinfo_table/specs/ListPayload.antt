@@ -23,7 +23,8 @@ use Rattle.nla_frame.specs.declared.error.DecodeError.{DecodeError}
 use Rattle.nla_frame.specs.declared.error.Family.{Family}
 use Rattle.linkinfo_shapes.specs.declared.shape.Shape.TheVariants.{Nested, Peer}
 use Rattle.linkinfo_table.specs.Codecs.{Inside, Own}
-use Rattle.linkinfo_table.specs.Contents.{Contents, IsPayloadContent, ListOf, accepted_under, listed}
+use Rattle.linkinfo_table.specs.Contents.{Contents, IsPayloadContent, ListOf, accepted_under}
+use Rattle.linkinfo_table.specs.Contents.{listed}
 use Rattle.linkinfo_table.specs.ErrorNames.{names_list}
 use Rattle.linkinfo_table.specs.Lists.{◌>>=◌, alike_pairs, values, values_under}
 use Rattle.linkinfo_table.specs.Lookups.{LookupSays}
