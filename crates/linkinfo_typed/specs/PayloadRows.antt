@@ -21,6 +21,7 @@ use Rattle.nla_frame.specs.declared.error.Family.{Family}
 use Rattle.linkinfo_shapes.specs.Data.{value_of}
 use Rattle.linkinfo_shapes.specs.declared.shape.Shape.{Shape}
 use Rattle.linkinfo_table.specs.ByRows.{members_written_by_rows}
+use Rattle.linkinfo_table.specs.Contents.{Contents}
 use Rattle.linkinfo_table.specs.Codecs.{Codec}
 use Rattle.linkinfo_table.specs.FamilyRows.{
   Custom,
@@ -107,15 +108,16 @@ module _ {X : Type 0} (family : Family) (other : DefaultNla → X) (rows : ℕ �
       (row.alike a b
       ∙ ap (λ (n : ℕ). (masked b.kind == n) && codec.alike a.value b.value) typed)
 
-pub holds_payload : {X : Type 0} {within : List Family} (family : Family) (other : DefaultNla → X)
+pub holds_payload : {X : Type 0} {within : List Family} {contents : ℕ → Contents} {is_set : Bool}
+    (family : Family) (other : DefaultNla → X)
     (attribute : X → Attribute) (rows : ℕ → FamilyRow X) (lists : List (ℕ × (List ℕ → ℕ)))
     (codec : Codec) (shape : Shape) (nested : Bool) (number kind : ℕ)
     (label : codec.Carrier → X) → HasPayload (rows number) shape nested codec label →
     ((p : List ℕ) → first_of_type lists number p ≡ codec.headers p) →
     ((x : codec.Carrier) → attribute (label x) ≡ record { kind = kind; value = codec.canon x }) →
     HoldsPayload
-    (members_written_by_rows family other attribute rows attribute (headers_by lists) within) codec
-    number kind label
+    (members_written_by_rows family other attribute rows attribute (headers_by lists) within
+    contents is_set) codec number kind label
 holds_payload family other attribute rows lists codec shape nested number kind label row count
     keeps = record {
       means = row_means family other rows codec shape nested number label row;
