@@ -101,7 +101,8 @@ class Report:
                  if is_promised(edit.function, it)]
         explicit = [it for it in errors if not AFTER_LOST.search(it)
                     and is_promised(edit.function, goal_of_error(it))]
-        explicit += self.lemmas_refused(edit.function, errors)
+        # (an edit outside of the function changes what lemmas say; one of its body does not)
+        explicit += self.lemmas_refused(edit.function, errors) if edit.is_outside else []
         # Where explicit proofs fail, and name steps that are gone or are others now, a correct body
         # has open goals too. A goal that is false has no proof at all.
         if errors and edit.moves_steps or any(map(LOST.search, errors)):

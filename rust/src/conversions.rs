@@ -4,8 +4,8 @@ use crate::layers::messages::{Capture, LinkMessages};
 use crate::layers::nla_frame::NlasIterator;
 use crate::layers::payloads::{Addresses, Numbers};
 use crate::{
-    AllocError, Bytes, DataLayer, DecodeError, ErrorIn, InfoDataOf, InfoKind, InfoPortDataOf,
-    InfoPortKind, LinkInfoOf, LinkInfoWalk, LinkLayer, Nlas, Text, ToVecError, VecLinkInfoOf,
+    AllocError, Bytes, DataLayer, DecodeError, ErrorIn, InfoKind, InfoPortKind, LinkInfoOf,
+    LinkInfoWalk, Nlas, Text, ToVecError, VecLinkInfoOf,
 };
 use alloc::string::String;
 use alloc::vec::Vec;
@@ -45,35 +45,35 @@ impl fmt::Display for ErrorIn {
 impl Error for ErrorIn {}
 
 /// The list of the items. It aborts where memory runs out, as `Vec` does.
-impl<P: LinkLayer> FromIterator<LinkInfoOf<P>> for VecLinkInfoOf<P> {
+impl<P: DataLayer> FromIterator<LinkInfoOf<P>> for VecLinkInfoOf<P> {
     fn from_iter<I: IntoIterator<Item = LinkInfoOf<P>>>(items: I) -> VecLinkInfoOf<P> {
         VecLinkInfoOf::from(Vec::from_iter(items))
     }
 }
 
 /// The list of the items. It aborts where memory runs out, as `Vec` does.
-impl<P: LinkLayer, const N: usize> From<[LinkInfoOf<P>; N]> for VecLinkInfoOf<P> {
+impl<P: DataLayer, const N: usize> From<[LinkInfoOf<P>; N]> for VecLinkInfoOf<P> {
     fn from(items: [LinkInfoOf<P>; N]) -> VecLinkInfoOf<P> {
         VecLinkInfoOf::from(Vec::from(items))
     }
 }
 
 /// The attributes, in order. The `Vec` is moved, not copied.
-impl<P: LinkLayer> From<VecLinkInfoOf<P>> for Vec<LinkInfoOf<P>> {
+impl<P: DataLayer> From<VecLinkInfoOf<P>> for Vec<LinkInfoOf<P>> {
     fn from(list: VecLinkInfoOf<P>) -> Vec<LinkInfoOf<P>> {
         list.into_vec()
     }
 }
 
 /// The list without attributes, of which the encoding is the empty string. Does not allocate.
-impl<P: LinkLayer> Default for VecLinkInfoOf<P> {
+impl<P: DataLayer> Default for VecLinkInfoOf<P> {
     fn default() -> VecLinkInfoOf<P> {
         VecLinkInfoOf(Nlas::default())
     }
 }
 
 /// Adds the attributes at the end. It aborts where memory runs out, as `Vec` does.
-impl<P: LinkLayer> Extend<LinkInfoOf<P>> for VecLinkInfoOf<P> {
+impl<P: DataLayer> Extend<LinkInfoOf<P>> for VecLinkInfoOf<P> {
     fn extend<I: IntoIterator<Item = LinkInfoOf<P>>>(&mut self, items: I) {
         self.0.extend(items);
     }
@@ -82,7 +82,7 @@ impl<P: LinkLayer> Extend<LinkInfoOf<P>> for VecLinkInfoOf<P> {
 /// Calls that return the last attribute of a type in a list, by its variant.
 macro_rules! last_attributes {
     ($($(#[$doc:meta])* $name:ident: $variant:ident($contents:ty);)*) => {
-        impl<P: LinkLayer> VecLinkInfoOf<P> {$(
+        impl<P: DataLayer> VecLinkInfoOf<P> {$(
             $(#[$doc])*
             #[must_use]
             pub fn $name(&self) -> Option<&$contents> {
@@ -111,7 +111,7 @@ last_attributes! {
 
     /// Returns the data of the link: the last `IFLA_INFO_DATA`, as the kernel takes the last
     /// attribute of a type. `None` if the list has none.
-    data: Data(InfoDataOf<P>);
+    data: Data(P::Data);
 
     /// Returns the port kind: the last `IFLA_INFO_SLAVE_KIND`, as the kernel takes the last
     /// attribute of a type. `None` if the list has none.
@@ -119,10 +119,10 @@ last_attributes! {
 
     /// Returns the data of the port: the last `IFLA_INFO_SLAVE_DATA`, as the kernel takes the last
     /// attribute of a type. `None` if the list has none.
-    port_data: PortData(InfoPortDataOf<P>);
+    port_data: PortData(P::PortData);
 }
 
-impl<P: LinkLayer> Deref for VecLinkInfoOf<P> {
+impl<P: DataLayer> Deref for VecLinkInfoOf<P> {
     type Target = [LinkInfoOf<P>];
 
     fn deref(&self) -> &[LinkInfoOf<P>] {

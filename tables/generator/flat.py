@@ -48,6 +48,7 @@ def crate_parts(crate, families):
     return parts("crate", {"crate": [(given, [given])], **{
         name: [({"crate": crate}, found)] if lists else [] for name, found in {
             "typed": [{**vars(it), "is_flat": not lists[it.name], "nests": bool(lists[it.name]),
+                       "as_set": str(it.is_set).lower(),
                        "inside": "".join(
                            f"family.{row['inner']} ∷ " for row in lists[it.name]
                            if row["inner"])} for it in families if it.layered],

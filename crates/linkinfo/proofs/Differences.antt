@@ -11,7 +11,7 @@ use Rattle.linkinfo_table.specs.Last.{attributes_of}
 use Rattle.linkinfo_table.specs.Rows.{row_alike}
 use Rattle.linkinfo_table.specs.declared.last.PlacedNla.{PlacedNla}
 use Rattle.linkinfo_table.specs.Difference.{differ, first_or, pairs_difference}
-use Rattle.linkinfo_table.specs.Layers.{Families, Types}
+use Rattle.linkinfo_data.specs.DataFamilies.{DataFamilies, DataTypes}
 use Rattle.linkinfo_table.specs.ListPayload.{values_accepted}
 use Rattle.linkinfo_table.specs.declared.difference.Difference.{Difference}
 use Rattle.linkinfo_table.proofs.Differences.{
@@ -21,10 +21,10 @@ use Rattle.linkinfo_table.proofs.Differences.{
   payloads_none,
   true_ok,
 }
-use Rattle.linkinfo_data.specs.Data.{data_of, family_of}
+use Rattle.linkinfo_data.specs.Data.{family_of}
 use Rattle.linkinfo_data.specs.Lawful.{AreLawful}
 use Rattle.linkinfo_data.specs.Payloads.{IsLawful, Payload}
-use Rattle.linkinfo_data.specs.PortData.{port_data_of, port_family_of}
+use Rattle.linkinfo_data.specs.PortData.{port_family_of}
 use Rattle.linkinfo.specs.Difference.{
   data_difference,
   link_difference,
@@ -51,7 +51,7 @@ data_none payload canon law p q first second =
     family.LinkInfo p q (ok_true (payload.means p.nla.value) first)
     (ok_true (payload.means q.nla.value) second)
 
-module _ {L : Types} (layer : Families L) (law : AreLawful layer) where
+module _ {L : DataTypes} (layer : DataFamilies L) (law : AreLawful layer) where
   typed : (b c : Bool) → b ≡ true → (b && c) ≡ c
   typed true c e = refl
   typed false c e = absurd cc
@@ -60,13 +60,13 @@ module _ {L : Types} (layer : Families L) (law : AreLawful layer) where
       IsOk (meant layer r p.nla) → IsOk (meant layer r q.nla) →
       is_none (role_difference layer r p q) ≡ row_alike (link_row layer r) p.nla q.nla
   role_none (role.Data tag) p q e first second =
-      data_none (data_of layer (family_of tag)) _ (law.link (family_of tag)) p q
+      data_none (layer.data_of (family_of tag)) _ (law.link (family_of tag)) p q
       (data_ok layer tag (role.Data tag) p.nla refl first)
       (data_ok layer tag (role.Data tag) q.nla refl second)
       ∙ sym (typed (masked q.nla.kind == masked p.nla.kind) _
       (eq-eqb (masked q.nla.kind) (masked p.nla.kind) e))
   role_none (role.PortData tag) p q e first second =
-      data_none (port_data_of layer (port_family_of tag)) _ (law.port (port_family_of tag)) p q
+      data_none (layer.port_data_of (port_family_of tag)) _ (law.port (port_family_of tag)) p q
       (port_ok layer tag (role.PortData tag) p.nla refl first)
       (port_ok layer tag (role.PortData tag) q.nla refl second)
       ∙ sym (typed (masked q.nla.kind == masked p.nla.kind) _
@@ -130,7 +130,7 @@ module _ {L : Types} (layer : Families L) (law : AreLawful layer) where
       sym (role_none r p q e first second)
       ∙ ap (λ (o : Option Difference). is_none o) (sym is ∙ none)
 
-module _ {L : Types} (layer : Families L) where
+module _ {L : DataTypes} (layer : DataFamilies L) where
   abbrev pub left_difference : CurrentKinds → List PlacedNla → List PlacedNla → Option Difference
   left_difference t ps qs =
       pairs_difference family.LinkInfo (link_difference layer) next_kinds t ps qs

@@ -5,14 +5,14 @@ use Rattle.std.specs.Prelude.{IsOk}
 use Rattle.nla_frame.specs.Answers.{verdict}
 use Rattle.nla_frame.specs.Attribute.{Attribute}
 use Rattle.nla_frame.specs.declared.error.DecodeError.{DecodeError}
-use Rattle.linkinfo_table.specs.Layers.{Families, Types}
+use Rattle.linkinfo_data.specs.DataFamilies.{DataFamilies, DataTypes}
 use Rattle.linkinfo_table.specs.Lists.{append_to as front}
 use Rattle.linkinfo.specs.Layered.{LinkOf}
 use Rattle.linkinfo.specs.declared.role.CurrentKinds.{CurrentKinds}
 use Rattle.linkinfo.specs.Strings.{headers_from, values_from}
 
-module _ {L : Types} (layer : Families L) (t : CurrentKinds) (ps : List (Result Attribute ℕ))
-    (end : ps ≡ []) where
+module _ {L : DataTypes} (layer : DataFamilies L) (t : CurrentKinds)
+    (ps : List (Result Attribute ℕ)) (end : ps ≡ []) where
   abbrev read : List (LinkOf L) → Result (List (LinkOf L)) DecodeError
   read xs = Ok xs
 

@@ -59,7 +59,7 @@ use Rattle.linkinfo_numbers.specs.Name.{name_attribute}
 use Rattle.nla_frame.specs.Payload.{stripped}
 use Rattle.linkinfo_shapes.specs.Shapes.{canon, canonical, means, text_of}
 use Rattle.linkinfo_shapes.specs.declared.shape.Shape.TheVariants.{Name, Raw}
-use Rattle.linkinfo_table.specs.Layers.{Families, Types}
+use Rattle.linkinfo_data.specs.DataFamilies.{DataFamilies, DataTypes}
 use Rattle.linkinfo_data.specs.Lawful.{AreLawful}
 use Rattle.linkinfo_table.specs.FamilyRows.{own, RowOwes}
 use Rattle.linkinfo_table.specs.FlatLaws.{rows_no_memory}
@@ -87,10 +87,9 @@ use Rattle.linkinfo.specs.declared.link_info.LinkInfoOf.TheVariants as info
 use Rattle.linkinfo.specs.declared.role.CurrentKinds.{CurrentKinds}
 use Rattle.linkinfo.specs.declared.role.Role.{Role}
 use Rattle.linkinfo.specs.declared.role.Role.TheVariants as role
-use Rattle.linkinfo_data.specs.Data.{data_of, family_of}
-use Rattle.linkinfo_data.specs.InfoData.{data_payload}
+use Rattle.linkinfo_data.specs.Data.{family_of}
 use Rattle.linkinfo_data.specs.Payloads.{IsLawful, Payload}
-use Rattle.linkinfo_data.specs.PortData.{port_data_of, port_data_payload, port_family_of}
+use Rattle.linkinfo_data.specs.PortData.{port_family_of}
 use Rattle.linkinfo.specs.Items.{
   link_attribute,
   link_other,
@@ -128,7 +127,7 @@ unknown_from_six t n =
       ne_eqb k 5 (λ h. omega (arith, h)),
     ) refl
 
-module _ {L : Types} (layer : Families L) where
+module _ {L : DataTypes} (layer : DataFamilies L) where
   abbrev attribute : LinkOf L → Attribute
   attribute = link_attribute layer
 
@@ -298,14 +297,14 @@ module _ {L : Types} (layer : Families L) where
     role_written role.Kind a ok =
         name_written 1 (λ name. info.Kind (kind_of_name name)) kind_owes.keeps a ok
     role_written (role.Data tag) a ok =
-        data_written 2 (data_of layer (family_of tag)) (data_payload layer)
+        data_written 2 (layer.data_of (family_of tag)) layer.data_payload
         (law.link (family_of tag))
         (λ d. info.Data d) (λ d. refl) a ok
     role_written role.Xstats a ok = refl
     role_written role.PortKind a ok =
         name_written 4 (λ name. info.PortKind (port_kind_of_name name)) port_kind_owes.keeps a ok
     role_written (role.PortData tag) a ok =
-        data_written 5 (port_data_of layer (port_family_of tag)) (port_data_payload layer)
+        data_written 5 (layer.port_data_of (port_family_of tag)) layer.port_data_payload
         (law.port (port_family_of tag)) (λ d. info.PortData d) (λ d. refl) a ok
     role_written role.Misplaced a ok = absurd cc
     role_written role.Unknown a ok = refl
@@ -376,13 +375,13 @@ module _ {L : Types} (layer : Families L) where
       (sym (tag_of_port_kind-port_kind_of_name n.0))
       ∙ ap (λ (y : LinkOf L). kinds_after_value t y) n.2
   role_next (role.Data tag) t a x e =
-      let d = inside_read a (λ d. info.Data d) ((data_of layer (family_of tag)).means a.value) x e
+      let d = inside_read a (λ d. info.Data d) ((layer.data_of (family_of tag)).means a.value) x e
       in
       ap (λ (y : LinkOf L). kinds_after_value t y) d.1
   role_next role.Xstats t a x e = ap (λ (y : LinkOf L). kinds_after_value t y) (good_same _ x e)
   role_next (role.PortData tag) t a x e =
       let d =
-      inside_read a (λ d. info.PortData d) ((port_data_of layer (port_family_of tag)).means a.value)
+      inside_read a (λ d. info.PortData d) ((layer.port_data_of (port_family_of tag)).means a.value)
       x
       e in ap (λ (y : LinkOf L). kinds_after_value t y) d.1
   role_next role.Misplaced t a x e = absurd cc
@@ -445,7 +444,7 @@ module _ {L : Types} (layer : Families L) where
       )
   role_alike_after (role.Data tag) t a b h = (
     eqb-true _ _ (and_parts (eqb (masked b.kind) (masked a.kind))
-        ((data_of layer (family_of tag)).alike a.value b.value) h).0,
+        ((layer.data_of (family_of tag)).alike a.value b.value) h).0,
     refl,
   )
   role_alike_after role.Xstats t a b h = (
@@ -454,7 +453,7 @@ module _ {L : Types} (layer : Families L) where
   )
   role_alike_after (role.PortData tag) t a b h = (
     eqb-true _ _ (and_parts (eqb (masked b.kind) (masked a.kind))
-        ((port_data_of layer (port_family_of tag)).alike a.value b.value) h).0,
+        ((layer.port_data_of (port_family_of tag)).alike a.value b.value) h).0,
     refl,
   )
   role_alike_after role.Misplaced t a b h = absurd cc

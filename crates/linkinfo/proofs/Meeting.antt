@@ -18,10 +18,10 @@ use Rattle.linkinfo_table.specs.Last.{StandsIn, attributes_of, last_of_type}
 use Rattle.linkinfo_table.specs.Rows.{row_alike}
 use Rattle.linkinfo_table.specs.declared.last.PlacedNla.{PlacedNla}
 use Rattle.linkinfo_table.proofs.Lasts.{all_stand, same_at}
-use Rattle.linkinfo_data.specs.Data.{data_of, family_of}
+use Rattle.linkinfo_data.specs.Data.{family_of}
 use Rattle.linkinfo_table.specs.Contents.{Contents, ListOf, Listed, NoList}
 use Rattle.linkinfo_table.specs.Equal.{option_decides}
-use Rattle.linkinfo_table.specs.Layers.{Families, Types}
+use Rattle.linkinfo_data.specs.DataFamilies.{DataFamilies, DataTypes}
 use Rattle.linkinfo_table.specs.Unmet as table
 use Rattle.linkinfo_table.specs.Unmet.{
   attribute_unmet,
@@ -36,7 +36,7 @@ use Rattle.linkinfo_table.specs.Unmet.{
 }
 use Rattle.linkinfo_table.specs.declared.unmet.Unmet.{Unmet}
 use Rattle.linkinfo_data.specs.Payloads.{Payload}
-use Rattle.linkinfo_data.specs.PortData.{port_data_of, port_family_of}
+use Rattle.linkinfo_data.specs.PortData.{port_family_of}
 use Rattle.linkinfo.specs.Items.{link_row}
 use Rattle.linkinfo.specs.Met.{AttributeMeets, AttributesMeet, Chosen, ContentsMeet, Item}
 use Rattle.linkinfo.specs.Met.{ItemMeets, ListMeets, PayloadMeets, RoleMeets, StringMeets}
@@ -151,14 +151,14 @@ items_lasts s k =
     last_mapped (item_at s) (λ item. type_of_item item == k) None (attributes_of s)
     ∙ ap (last_of type_of_item k) (items_placed s)
 
-module _ {L : Types} (layer : Families L) where
+module _ {L : DataTypes} (layer : DataFamilies L) where
   role_met : (r : Role) (h w : PlacedNla) →
       role_unmet layer r h w ≡ None ↔ RoleMeets layer r h.nla w.nla
   role_met (role.Data tag) h w =
-      let payload = data_of layer (family_of tag) in
+      let payload = layer.data_of (family_of tag) in
       contents_met payload.contents (meets (λ a b. payload.alike a.value b.value) h.nla w.nla) h w
   role_met (role.PortData tag) h w =
-      let payload = port_data_of layer (port_family_of tag) in
+      let payload = layer.port_data_of (port_family_of tag) in
       contents_met payload.contents (meets (λ a b. payload.alike a.value b.value) h.nla w.nla) h w
   role_met r h w = item_met (row_alike (link_row layer r)) h w
 
@@ -276,15 +276,15 @@ same_names role.Xstats m n e f = (option_decides bytes_eq-Decides m.kind n.kind)
 same_names (role.PortData tag) m n e f = (option_decides bytes_eq-Decides m.port n.port).1 f
 same_names _ m n e f = refl
 
-module _ {L : Types} (layer : Families L) where
+module _ {L : DataTypes} (layer : DataFamilies L) where
   -- equal payloads
   pub role_equal : (r : Role) (h w : Attribute) → h.value ≡ w.value → RoleMeets layer r h w
   role_equal (role.Data tag) h w e =
-      let payload = data_of layer (family_of tag) in
+      let payload = layer.data_of (family_of tag) in
       let alike = λ (a b : Attribute). payload.alike a.value b.value in
       contents_equal payload.contents (meets alike h w) h w (meets_equal alike h w e) e
   role_equal (role.PortData tag) h w e =
-      let payload = port_data_of layer (port_family_of tag) in
+      let payload = layer.port_data_of (port_family_of tag) in
       let alike = λ (a b : Attribute). payload.alike a.value b.value in
       contents_equal payload.contents (meets alike h w) h w (meets_equal alike h w e) e
   role_equal r h w e = meets_equal (row_alike (link_row layer r)) h w e
@@ -316,7 +316,7 @@ equal_data payload h w e =
     (contents_equal payload.contents met h.nla w.nla (meets_equal alike h.nla w.nla e) e)
 
 -- the result for equal strings, the first of which is accepted
-module _ {L : Types} (layer : Families L) where
+module _ {L : DataTypes} (layer : DataFamilies L) where
   itself_answer : {X : Type 0} (r : Result X DecodeError) (o : Option Unmet) → Ok tt ≡ verdict r →
       o ≡ None →
       Ok None ≡ unmet_answer r r o

@@ -14,10 +14,10 @@ use Rattle.nla_frame.specs.declared.error.DecodeError.{DecodeError}
 use Rattle.linkinfo_table.specs.Last.{attributes_of, placed_from}
 use Rattle.linkinfo_table.specs.Lists.{◌>>=◌}
 use Rattle.linkinfo_table.specs.Rows.{alike_in, row_alike}
-use Rattle.linkinfo_data.specs.Data.{data_of, family_of}
-use Rattle.linkinfo_table.specs.Layers.{Families, Types}
+use Rattle.linkinfo_data.specs.Data.{family_of}
+use Rattle.linkinfo_data.specs.DataFamilies.{DataFamilies, DataTypes}
 use Rattle.linkinfo_data.specs.Lawful.{AreLawful}
-use Rattle.linkinfo_data.specs.PortData.{port_data_of, port_family_of}
+use Rattle.linkinfo_data.specs.PortData.{port_family_of}
 use Rattle.linkinfo_table.specs.Contents.{
   Contents,
   HasOneType,
@@ -137,15 +137,15 @@ if_same true false p q o e f = absurd cc
 if_same false true p q o e f = absurd cc
 if_same false false p q o e f = refl
 
-module _ {L : Types} (layer : Families L) (law : AreLawful layer) where
+module _ {L : DataTypes} (layer : DataFamilies L) (law : AreLawful layer) where
   role_alike : (r : Role) (a b : Attribute) → row_alike (link_row layer r) a b ≡ true →
       RoleMeets layer r a b
   role_alike (role.Data tag) a b e =
-      let payload = data_of layer (family_of tag) in
+      let payload = layer.data_of (family_of tag) in
       payload_alike payload _ (law.link (family_of tag)) a b
       (and_parts (masked b.kind == masked a.kind) (payload.alike a.value b.value) e).1
   role_alike (role.PortData tag) a b e =
-      let payload = port_data_of layer (port_family_of tag) in
+      let payload = layer.port_data_of (port_family_of tag) in
       payload_alike payload _ (law.port (port_family_of tag)) a b
       (and_parts (masked b.kind == masked a.kind) (payload.alike a.value b.value) e).1
   role_alike r a b e =
@@ -264,7 +264,7 @@ module _ {L : Types} (layer : Families L) (law : AreLawful layer) where
       (items_of a) (items_of b) (pairs_from (nla_items a) (nla_items b) no_names 0 0 ok e))
 
 -- equivalence has no order
-module _ {L : Types} (layer : Families L) (law : AreLawful layer) where
+module _ {L : DataTypes} (layer : DataFamilies L) (law : AreLawful layer) where
   pub alike_turned : (a b : List ℕ) → IsBytes a → IsBytes b → IsOk (reading layer a) →
       IsOk (reading layer b) → alike_strings layer a b ≡ true →
       alike_strings layer b a ≡ true

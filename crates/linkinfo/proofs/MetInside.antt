@@ -5,10 +5,10 @@ use Rattle.std.specs.List.{AllByRecursion}
 use Rattle.std.proofs.Common.{ap, inl, inr, subst, sym, ◌∙◌}
 use Rattle.nla_frame.specs.Attribute.{Attribute}
 use Rattle.linkinfo_table.proofs.Lasts.{last_holds}
-use Rattle.linkinfo_data.specs.Data.{data_of, family_of}
-use Rattle.linkinfo_table.specs.Layers.{Families, Types}
+use Rattle.linkinfo_data.specs.Data.{family_of}
+use Rattle.linkinfo_data.specs.DataFamilies.{DataFamilies, DataTypes}
 use Rattle.linkinfo_table.specs.Contents.{Contents, ListOf, NoList}
-use Rattle.linkinfo_data.specs.PortData.{port_data_of, port_family_of}
+use Rattle.linkinfo_data.specs.PortData.{port_family_of}
 use Rattle.linkinfo.specs.Met.{AttributeMeets, ContentsMeet, ContentsStay, DifferInside, HasGained}
 use Rattle.linkinfo.specs.Met.{IsMet, Item, ItemMeets, RoleMeets, StaysFor, contents_in, items_of}
 use Rattle.linkinfo.specs.Met.{last_of, role_of_item, type_of_item}
@@ -26,14 +26,14 @@ contents_stay NoList old new h m w stay met = absurd stay
 contents_stay (ListOf l inside) old new h m w stay met =
     attributes_stay l (AttributeMeets inside l.alike) h.value m.value w.value stay met
 
-module _ {L : Types} (layer : Families L) where
+module _ {L : DataTypes} (layer : DataFamilies L) where
   payload_stays : (r : Role) (h m w : Attribute) →
       ContentsStay (contents_in layer r) w.value h.value m.value → RoleMeets layer r h w →
       RoleMeets layer r m w
   payload_stays (role.Data tag) h m w stay met =
-      contents_stay (data_of layer (family_of tag)).contents _ _ h m w stay met
+      contents_stay (layer.data_of (family_of tag)).contents _ _ h m w stay met
   payload_stays (role.PortData tag) h m w stay met =
-      contents_stay (port_data_of layer (port_family_of tag)).contents _ _ h m w stay met
+      contents_stay (layer.port_data_of (port_family_of tag)).contents _ _ h m w stay met
   payload_stays role.Kind h m w stay met = absurd stay
   payload_stays role.Xstats h m w stay met = absurd stay
   payload_stays role.PortKind h m w stay met = absurd stay

@@ -13,7 +13,7 @@ use Rattle.linkinfo_numbers.specs.PortKind.{port_tag_of_name}
 use Rattle.linkinfo_table.specs.Last.{attributes_of}
 use Rattle.linkinfo_table.specs.declared.last.PlacedNla.{PlacedNla}
 use Rattle.linkinfo_table.specs.Equal.{option_decides}
-use Rattle.linkinfo_table.specs.Layers.{Families, Types}
+use Rattle.linkinfo_data.specs.DataFamilies.{DataFamilies, DataTypes}
 use Rattle.linkinfo.specs.Met.{Item, items_of, role_of_item}
 use Rattle.linkinfo.specs.Roles.{role_of, role_under}
 use Rattle.linkinfo.specs.Strings.{reading}
@@ -104,7 +104,7 @@ agree_at now m n (suc (suc (suc (suc (suc (suc k)))))) kind port =
 
 -- ---- the attributes of an accepted list are placed
 
-module _ {L : Types} (layer : Families L) where
+module _ {L : DataTypes} (layer : DataFamilies L) where
   not_misplaced : (r : Role) (a : Attribute) → IsOk (meant layer r a) → r ≢ role.Misplaced
   not_misplaced r a ok e = none (subst (λ (q : Role). IsOk (meant layer q a)) e ok)
     where

@@ -16,10 +16,10 @@ use Rattle.std.proofs.lemmas.Map.Keys.{IsDistinct-IsPermutation, IsDistinct-head
 use Rattle.nla_frame.specs.Attribute.{Attribute}
 use Rattle.nla_frame.specs.Payload.{stripped}
 use Rattle.linkinfo_table.proofs.Lasts.{last_holds}
-use Rattle.linkinfo_data.specs.Data.{data_of, family_of}
-use Rattle.linkinfo_table.specs.Layers.{Families, Types}
+use Rattle.linkinfo_data.specs.Data.{family_of}
+use Rattle.linkinfo_data.specs.DataFamilies.{DataFamilies, DataTypes}
 use Rattle.linkinfo_data.specs.Lists.{family_in}
-use Rattle.linkinfo_data.specs.PortData.{port_data_of, port_family_of}
+use Rattle.linkinfo_data.specs.PortData.{port_family_of}
 use Rattle.linkinfo_table.specs.Contents.{Contents, ListOf, Listed, NoList}
 use Rattle.linkinfo_table.specs.Unmet.{list_unmet, meets}
 use Rattle.linkinfo.specs.Met.{EachHasOneLike, HasNoTypeTwice, IsLikeIn, IsReorderedData}
@@ -318,7 +318,7 @@ settled names known k kind port placed =
     one_role known names k placed (agree_same r known names (agree_turned r names known agree)) in
     (sym is, subst (λ (q : Role). Agree q names known) (sym is) agree)
 
-module _ {L : Types} (layer : Families L) where
+module _ {L : DataTypes} (layer : DataFamilies L) where
   -- ---- the attributes of an accepted list
 
   abbrev Settled : List ℕ → Item → Type 0
@@ -349,9 +349,9 @@ module _ {L : Types} (layer : Families L) where
       MeetBoth (RoleMeets layer r) a b
   like_meets r a b (inl e) = (role_equal layer r a b e, role_equal layer r b a (sym e))
   like_meets (role.Data tag) a b (inr h) =
-      contents_reordered (data_of layer (family_of tag)).contents _ _ a b h.0 h.1
+      contents_reordered (layer.data_of (family_of tag)).contents _ _ a b h.0 h.1
   like_meets (role.PortData tag) a b (inr h) =
-      contents_reordered (port_data_of layer (port_family_of tag)).contents _ _ a b h.0 h.1
+      contents_reordered (layer.port_data_of (port_family_of tag)).contents _ _ a b h.0 h.1
   like_meets r a b (inr h) = absurd (let e = h.0 in cc)
 
   item_meets : (r : Role) (known : Named) (x y : Item) → role_of_item y ≡ r →

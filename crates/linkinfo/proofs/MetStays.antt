@@ -8,7 +8,7 @@ use Rattle.std.proofs.lemmas.Bool.{cases_Bool, eq-eqb, eqb-true}
 use Rattle.nla_frame.specs.Attribute.{Attribute}
 use Rattle.nla_frame.specs.Payload.{stripped}
 use Rattle.linkinfo_table.proofs.Lasts.{last_holds}
-use Rattle.linkinfo_table.specs.Layers.{Families, Types}
+use Rattle.linkinfo_data.specs.DataFamilies.{DataFamilies, DataTypes}
 use Rattle.linkinfo_table.specs.Contents.{Contents, Listed}
 use Rattle.linkinfo_table.specs.Unmet.{list_unmet, meets}
 use Rattle.linkinfo.specs.Met.{AttributeMeets, AttributesMeet, AttributesStay, Chosen}
@@ -232,7 +232,7 @@ kept_last want k there s =
 
 -- ---- the list
 
-module _ {L : Types} (layer : Families L) where
+module _ {L : DataTypes} (layer : DataFamilies L) where
   -- an attribute of the same payload, that belongs to the same where it matters
   item_stays : (want : List Attribute) (h m kept w : Item) → AreSame want h kept →
       AreSame want m kept → IsWanted want w → ItemMeets layer h w → ItemMeets layer m w

@@ -23,7 +23,7 @@ use Rattle.std.specs.Bool.{OnTrue}
 use Rattle.nla_frame.specs.Attribute.{Attribute, masked}
 use Rattle.nla_frame.specs.NlaItems.{nla_items}
 use Rattle.nla_frame.specs.declared.error.DecodeError.{DecodeError}
-use Rattle.linkinfo_table.specs.Layers.{Families, Types}
+use Rattle.linkinfo_data.specs.DataFamilies.{DataFamilies, DataTypes}
 use Rattle.linkinfo_table.specs.Lists.{◌>>=◌, if_read}
 use Rattle.linkinfo_table.specs.Rows.{row_alike, row_headers, alike_in}
 use Rattle.linkinfo.specs.Layered.{LinkOf}
@@ -35,7 +35,7 @@ use Rattle.linkinfo.specs.Strings.{next_kinds, values_from, headers_from, alike_
 use Rattle.linkinfo.proofs.Items.{role_alike_after, link_alike_after, same_role}
 use Rattle.linkinfo.proofs.Steps.{after_is, meant, meaning_is, headers_is, own_error_is}
 
-module _ {L : Types} (layer : Families L) where
+module _ {L : DataTypes} (layer : DataFamilies L) where
   -- an accepted byte string that begins with an attribute
   pub record Front (t : CurrentKinds) (a : Attribute) (s rest : List ℕ) : Type 0 where
     pub first : IsOk (link_meaning layer t a)

@@ -27,6 +27,7 @@ use Rattle.linkinfo_numbers.specs.declared.tags.KindTag.TheVariants as tag
 use Rattle.linkinfo_data.specs.declared.info_data.InfoDataOf.TheVariants as held
 use Rattle.linkinfo.specs.declared.link_info.LinkInfoOf.TheVariants as info
 use Rattle.linkinfo_data.specs.Data.{family_of}
+use Rattle.linkinfo_data.specs.DataFamilies.{DataFamilies, DataTypes, data_families, data_types}
 use Rattle.linkinfo_table.specs.Layers.{Families, Types}
 use Rattle.linkinfo_data.specs.declared.data.DataFamily.{DataFamily}
 use Rattle.linkinfo_data.specs.declared.data.DataFamily.TheVariants as of
@@ -58,7 +59,13 @@ pub pfcp_role : (r : Role) → is_pfcp_data r ≡ true → r ≡ role.Data tag.P
 pfcp_role (role.Data t) e = ap (λ (s : KindTag). let r : Role = role.Data s in r) (tag_is t e)
 pfcp_role _ e = absurd cc
 
-module _ {L : Types} (layer : Families L) where
+module _ {T : Types} (families : Families T) where
+  abbrev L : DataTypes
+  L = data_types T
+
+  abbrev layer : DataFamilies L
+  layer = data_families families
+
   pub bytes_before : (t : CurrentKinds) (a : Attribute) → role_at t a ≡ role.Data tag.Pfcp →
       meaning_before layer t a ≡ Ok (info.Data (held.Other a.value))
   bytes_before t a e =

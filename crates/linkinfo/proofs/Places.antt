@@ -41,7 +41,7 @@ use Rattle.nla_frame.specs.Payload.{stripped}
 use Rattle.nla_frame.specs.declared.error.Cause.TheVariants as cause
 use Rattle.nla_frame.specs.declared.error.Family.TheVariants as family
 use Rattle.nla_frame.specs.declared.error.DecodeError.{DecodeError}
-use Rattle.linkinfo_table.specs.Layers.{Families, Types}
+use Rattle.linkinfo_data.specs.DataFamilies.{DataFamilies, DataTypes}
 use Rattle.linkinfo_table.specs.FamilyRows.{own}
 use Rattle.linkinfo_table.specs.Rows.{labelled, meaning_in, row_meaning}
 use Rattle.linkinfo.specs.Layered.{LinkOf}
@@ -75,7 +75,7 @@ use Rattle.linkinfo.specs.Walks.{LinkWalk, Moves, TagsByPlace, attribute_of_item
 use Rattle.linkinfo.specs.declared.walk.LinkInfoItem.{LinkInfoItem}
 use Rattle.linkinfo.proofs.Items.{name_read, unknown_from_six}
 
-module _ {L : Types} (layer : Families L) where
+module _ {L : DataTypes} (layer : DataFamilies L) where
   pub unknown_is_kept : (t : CurrentKinds) (a : Attribute) → role_at t a ≡ role.Unknown →
       link_meaning layer t a ≡ Ok (link_other (kept a))
   unfolding meaning_in
@@ -262,7 +262,7 @@ tags_by_place s before item u v led gave =
       port_tag = gave.holds.port_tag ∙ ap (λ (t : CurrentKinds). t.port) is;
     }
 
-module _ {L : Types} (layer : Families L) where
+module _ {L : DataTypes} (layer : DataFamilies L) where
   -- an accepted attribute has no error of its own
   named_enters : (a : Attribute) (t : CurrentKinds) (label : List ℕ → LinkOf L)
       (x : LinkOf L) →

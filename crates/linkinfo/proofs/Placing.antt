@@ -32,7 +32,7 @@ use Rattle.nla_frame.specs.NlaItems.{nla_items, nla_items_of, split}
 use Rattle.nla_frame.specs.declared.error.DecodeError.{DecodeError}
 use Rattle.nla_frame.proofs.Framing.{split_is}
 use Rattle.nla_frame.proofs.Stepping.{nla_items_split}
-use Rattle.linkinfo_table.specs.Layers.{Families, Types}
+use Rattle.linkinfo_data.specs.DataFamilies.{DataFamilies, DataTypes}
 use Rattle.linkinfo_table.specs.Lists.{◌>>=◌}
 use Rattle.linkinfo_table.specs.ReadingLaws.{list_has_error}
 use Rattle.linkinfo.specs.Layered.{LinkOf}
@@ -124,7 +124,7 @@ refused : {X : Type 0} (m : Result X DecodeError) (e : DecodeError) → Err e �
 refused (Ok x) e h = absurd cc
 refused (Err d) e h = cc
 
-module _ {L : Types} (layer : Families L) where
+module _ {L : DataTypes} (layer : DataFamilies L) where
   means_each-push : (t : CurrentKinds) (front : List Attribute) (xs : List (LinkOf L))
       (a : Attribute) (x : LinkOf L) → MeansEach layer t front xs →
       link_meaning layer (kinds_after_all t front) a ≡ Ok x →

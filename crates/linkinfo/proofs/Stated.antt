@@ -12,12 +12,10 @@ use Rattle.linkinfo_numbers.specs.declared.tags.KindTag.{KindTag}
 use Rattle.linkinfo_numbers.specs.declared.tags.PortTag.{PortTag}
 use Rattle.linkinfo_table.specs.Lists.{well_under}
 use Rattle.linkinfo_table.specs.Rows.{WellAt, WellFormed}
-use Rattle.linkinfo_data.specs.Conditions.{AreStated, FamilyConditions, data_conditions}
-use Rattle.linkinfo_data.specs.Conditions.{port_data_conditions}
+use Rattle.linkinfo_data.specs.Conditions.{AreStated, DataConditions}
 use Rattle.linkinfo_data.specs.Data.{family_of}
-use Rattle.linkinfo_table.specs.Layers.{Families, Types}
+use Rattle.linkinfo_data.specs.DataFamilies.{DataFamilies, DataTypes}
 use Rattle.linkinfo_data.specs.PortData.{port_family_of}
-use Rattle.linkinfo_data.specs.Layered.{DataOf, PortDataOf}
 use Rattle.linkinfo.specs.Items.{link_other, link_row, link_well}
 use Rattle.linkinfo.specs.Roles.{no_kinds, role_of, role_under}
 use Rattle.linkinfo.specs.Strings.{WellFormed as WellFormedList, kinds_after_value}
@@ -33,52 +31,49 @@ use Rattle.linkinfo.specs.Conditions.{Conditions, IsDataUnder, IsPortDataUnder, 
 use Rattle.linkinfo.specs.Conditions.{item_conditions}
 use Rattle.linkinfo.proofs.Items.{unknown_from_six}
 
-module _ {L : Types} (layer : Families L) (well : FamilyConditions L)
+module _ {L : DataTypes} (layer : DataFamilies L) (well : DataConditions L)
     (stated : AreStated layer well) where
   abbrev IsWell : Role → LinkOf L → Type 0
   IsWell r x = WellAt link_other (link_row layer r) x
 
-  data_stated : (kind : Option KindTag) (d : DataOf L) →
-      IsWell (role_under kind (λ tag. role.Data tag)) (info.Data d) ↔ IsDataUnder layer.peer.well
-      well kind d
+  data_stated : (kind : Option KindTag) (d : L.Data) →
+      IsWell (role_under kind (λ tag. role.Data tag)) (info.Data d) ↔ IsDataUnder well kind d
   data_stated None d = (λ w. absurd w, λ h. let no = h.1 in absurd cc)
   data_stated (Some tag) d = (
     λ w.
         let same : w.0 ≡ d = cc in (
           tag,
           refl,
-          subst (λ (e : DataOf L). data_conditions layer.peer.well well (family_of tag) e) same
+          subst (λ (e : L.Data). well.link (family_of tag) e) same
               ((stated.link (family_of tag) w.0).0 w.1),
         ),
     λ h.
         let same : h.0 ≡ tag = cc in (
           d,
           (stated.link (family_of tag) d).1
-              (subst (λ (g : KindTag). data_conditions layer.peer.well well (family_of g) d) same
+              (subst (λ (g : KindTag). well.link (family_of g) d) same
               h.2),
           refl,
         ),
   )
 
-  port_data_stated : (port : Option PortTag) (d : PortDataOf L) →
+  port_data_stated : (port : Option PortTag) (d : L.PortData) →
       IsWell (role_under port (λ tag. role.PortData tag)) (info.PortData d) ↔
-      IsPortDataUnder layer.peer.well well port d
+      IsPortDataUnder well port d
   port_data_stated None d = (λ w. absurd w, λ h. let no = h.1 in absurd cc)
   port_data_stated (Some tag) d = (
     λ w.
         let same : w.0 ≡ d = cc in (
           tag,
           refl,
-          subst (λ (e : PortDataOf L). port_data_conditions layer.peer.well well
-              (port_family_of tag) e) same
+          subst (λ (e : L.PortData). well.port (port_family_of tag) e) same
               ((stated.port (port_family_of tag) w.0).0 w.1),
         ),
     λ h.
         let same : h.0 ≡ tag = cc in (
           d,
           (stated.port (port_family_of tag) d).1
-              (subst (λ (g : PortTag). port_data_conditions layer.peer.well well (port_family_of g)
-              d) same h.2),
+              (subst (λ (g : PortTag). well.port (port_family_of g) d) same h.2),
           refl,
         ),
   )
@@ -150,16 +145,16 @@ module _ {L : Types} (layer : Families L) (well : FamilyConditions L)
       (kept_stated k d (λ e. cc, λ e. cc, λ e. cc, λ e. cc, λ e. cc))
 
   pub item_stated : (t : CurrentKinds) (x : LinkOf L) → link_well layer t x
-      ↔ item_conditions layer.peer.well well t x
+      ↔ item_conditions well t x
   unfolding WellFormed role_of kind_of_name port_kind_of_name
   item_stated t = elim [
     | info.Kind k ↦ table_label kind_table_holds IsText (λ y. info.Kind y)
-        (item_conditions layer.peer.well well t)
+        (item_conditions well t)
         (λ _ is. is) (λ _ is. is) k
     | info.Data d ↦ data_stated t.kind d
     | info.Xstats x ↦ statistics_stated t.kind x
     | info.PortKind k ↦ table_label port_kind_table_holds IsText (λ y. info.PortKind y)
-        (item_conditions layer.peer.well well t) (λ _ is. is) (λ _ is. is) k
+        (item_conditions well t) (λ _ is. is) (λ _ is. is) k
     | info.PortData d ↦ port_data_stated t.port d
     | info.Other d ↦ unknown_stated t (masked d.kind) d
   ]
@@ -173,6 +168,5 @@ module _ {L : Types} (layer : Families L) (well : FamilyConditions L)
     λ h. ((item_stated t x).1 h.0, (under_stated (kinds_after_value t x) xs).1 h.1),
   )
 
-  pub list_stated : (xs : List (LinkOf L)) → WellFormedList layer xs ↔ Conditions layer.peer.well
-      well xs
+  pub list_stated : (xs : List (LinkOf L)) → WellFormedList layer xs ↔ Conditions well xs
   list_stated xs = under_stated no_kinds xs

@@ -33,7 +33,7 @@ use Rattle.nla_frame.specs.declared.error.Family.TheVariants as family
 use Rattle.nla_frame.specs.declared.error.DecodeError.{DecodeError}
 use Rattle.linkinfo_numbers.specs.Kind.{kind_of_name}
 use Rattle.linkinfo_numbers.specs.PortKind.{port_kind_of_name}
-use Rattle.linkinfo_table.specs.Layers.{Families, Types}
+use Rattle.linkinfo_data.specs.DataFamilies.{DataFamilies, DataTypes}
 use Rattle.linkinfo_table.specs.Lists.{◌>>=◌, if_read, append_to as front}
 use Rattle.linkinfo_table.specs.Rows.{
   meaning_in,
@@ -90,7 +90,7 @@ entered_any role.PortKind t u a e = go (name_meaning a) _ _ e
 entered_any role.Misplaced t u a e = absurd cc
 entered_any _ t u a e = refl
 
-module _ {L : Types} (layer : Families L) where
+module _ {L : DataTypes} (layer : DataFamilies L) where
   abbrev pub meant : Role → Attribute → Result (LinkOf L) DecodeError
   meant r a = row_meaning family.LinkInfo link_other (link_row layer r) a
 

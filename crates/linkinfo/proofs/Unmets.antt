@@ -54,7 +54,7 @@ use Rattle.linkinfo_table.specs.Last.{
 }
 use Rattle.linkinfo_table.specs.declared.last.PlacedNla.{PlacedNla}
 use Rattle.linkinfo_table.proofs.Lasts.{all_stand, last_passes, last_stands, stands_within}
-use Rattle.linkinfo_table.specs.Layers.{Families, Types}
+use Rattle.linkinfo_data.specs.DataFamilies.{DataFamilies, DataTypes}
 use Rattle.linkinfo_table.specs.Unmet.{first_of, whole_unmet}
 use Rattle.linkinfo_table.specs.declared.unmet.Unmet.{Unmet}
 use Rattle.linkinfo.specs.Items.{link_meaning, link_row}
@@ -92,9 +92,9 @@ use Rattle.nla_frame.specs.declared.error.Family.TheVariants as family
 use Rattle.std.proofs.lemmas.Slice.Eq.{bytes_eq-Decides}
 use Rattle.linkinfo_table.specs.Rows.{labelled, row_alike}
 use Rattle.linkinfo_table.specs.SelfList.{inside as in_payload}
-use Rattle.linkinfo_data.specs.Data.{data_of, family_of}
+use Rattle.linkinfo_data.specs.Data.{family_of}
 use Rattle.linkinfo_table.specs.Equal.{option_decides}
-use Rattle.linkinfo_data.specs.PortData.{port_data_of, port_family_of}
+use Rattle.linkinfo_data.specs.PortData.{port_family_of}
 use Rattle.linkinfo.proofs.Items.{unknown_from_six}
 use Rattle.linkinfo.proofs.Steps.{meaning_is, meant}
 use Rattle.linkinfo.proofs.Pairs.{front}
@@ -151,7 +151,7 @@ none_before n names (p ∷ more) far =
     let later : nat_lt p.offset n ≡ false = grind (arith, nat_tests, far.0) in
     rw later (none_before n names more far.1)
 
-module _ {L : Types} (layer : Families L) where
+module _ {L : DataTypes} (layer : DataFamilies L) where
   named_after : (names : Named) (a : Attribute) →
       IsOk (link_meaning layer (kinds_named names) a) →
       next_kinds (kinds_named names) a ≡ kinds_named (names_after names a)
@@ -436,7 +436,7 @@ pub one_role : (m n : Named) (k : ℕ) → role_of (kinds_named n) k ≢ role.Mi
     role_of (kinds_named m) k ≡ role_of (kinds_named n) k
 one_role m n k known same = role_is m n k (role_of (kinds_named n) k) refl known same
 
-module _ {L : Types} (layer : Families L) where
+module _ {L : DataTypes} (layer : DataFamilies L) where
   abbrev ok_meant : Role → Attribute → Type 0
   ok_meant r a = IsOk (meant layer r a)
 
@@ -484,18 +484,18 @@ module _ {L : Types} (layer : Families L) where
 
   pub data_ok : (tag : KindTag) (r : Role) (a : Attribute) → r ≡ role.Data tag →
       IsOk (meant layer r a) →
-      IsOk ((data_of layer (family_of tag)).means a.value)
+      IsOk ((layer.data_of (family_of tag)).means a.value)
   data_ok tag r a is ok =
       payload_ok (masked a.kind) (λ d. info.Data d)
-      ((data_of layer (family_of tag)).means a.value)
+      ((layer.data_of (family_of tag)).means a.value)
       (subst (λ (q : Role). ok_meant q a) is ok)
 
   pub port_ok : (tag : PortTag) (r : Role) (a : Attribute) → r ≡ role.PortData tag →
       IsOk (meant layer r a) →
-      IsOk ((port_data_of layer (port_family_of tag)).means a.value)
+      IsOk ((layer.port_data_of (port_family_of tag)).means a.value)
   port_ok tag r a is ok =
       payload_ok (masked a.kind) (λ d. info.PortData d)
-      ((port_data_of layer (port_family_of tag)).means a.value)
+      ((layer.port_data_of (port_family_of tag)).means a.value)
       (subst (λ (q : Role). ok_meant q a) is ok)
 
   -- what an attribute of such a type means, and what of it is not met, by its role under any kinds

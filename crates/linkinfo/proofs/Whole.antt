@@ -44,7 +44,7 @@ use Rattle.linkinfo_numbers.specs.declared.tags.KindTag.{KindTag}
 use Rattle.linkinfo_numbers.specs.declared.tags.PortTag.{PortTag}
 use Rattle.linkinfo_numbers.specs.Kind.{tag_of_name}
 use Rattle.linkinfo_numbers.specs.PortKind.{port_tag_of_name}
-use Rattle.linkinfo_table.specs.Layers.{Families, Types}
+use Rattle.linkinfo_data.specs.DataFamilies.{DataFamilies, DataTypes}
 use Rattle.linkinfo_data.specs.Lawful.{AreLawful}
 use Rattle.linkinfo_table.specs.ListLaws.{
   no_memory,
@@ -108,7 +108,7 @@ IsBytes-right : (x y : List ℕ) → IsBytes (x ++ y) → IsBytes y
 IsBytes-right [] y h = h
 IsBytes-right (b ∷ x) y h = IsBytes-right x y (λ i. h (suc i))
 
-module _ {L : Types} (layer : Families L) (law : AreLawful layer) where
+module _ {L : DataTypes} (layer : DataFamilies L) (law : AreLawful layer) where
   abbrev attribute : LinkOf L → Attribute
   attribute = link_attribute layer
 

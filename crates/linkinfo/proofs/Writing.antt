@@ -42,7 +42,7 @@ use Rattle.nla_frame.specs.Canonical.{attribute_for, attributes_for}
 use Rattle.nla_frame.specs.declared.error.DecodeError.{DecodeError}
 use Rattle.nla_frame.specs.NlaItems.{nla_items}
 use Rattle.nla_frame.proofs.Emitting.{length-list_string-cons, whole, Written}
-use Rattle.linkinfo_table.specs.Layers.{Families, Types}
+use Rattle.linkinfo_data.specs.DataFamilies.{DataFamilies, DataTypes}
 use Rattle.linkinfo_data.specs.Lawful.{AreLawful}
 use Rattle.linkinfo_table.specs.Lists.{IsTotalWith}
 use Rattle.linkinfo_table.proofs.Measuring.{Remains, measured_after, remains_none}
@@ -144,7 +144,7 @@ measured_more total all now rest a so_far e =
       length-list_string-cons a rest,
     )
 
-module _ {L : Types} (layer : Families L) where
+module _ {L : DataTypes} (layer : DataFamilies L) where
   -- the canonical attributes of those that a walk has not visited
   abbrev pub left_of : LinkWalk → List Attribute
   left_of w = attributes_for (link_attribute layer) (values_from layer w.kinds (nla_items (left w)))

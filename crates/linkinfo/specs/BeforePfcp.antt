@@ -20,7 +20,7 @@ use Rattle.nla_frame.specs.declared.error.Family.TheVariants as family
 use Rattle.linkinfo_numbers.specs.declared.tags.KindTag.{KindTag}
 use Rattle.linkinfo_numbers.specs.declared.tags.KindTag.TheVariants as tag
 use Rattle.linkinfo_data.specs.Data.{family_of}
-use Rattle.linkinfo_table.specs.Layers.{Families, Types}
+use Rattle.linkinfo_data.specs.DataFamilies.{DataFamilies, DataTypes}
 use Rattle.linkinfo_data.specs.declared.data.DataFamily.{DataFamily}
 use Rattle.linkinfo_data.specs.declared.data.DataFamily.TheVariants as of
 use Rattle.linkinfo_table.specs.Lists.{values_under, alike_under}
@@ -42,25 +42,26 @@ abbrev pub family_before : KindTag → DataFamily
 family_before t = if is_pfcp t then of.Raw else family_of t
 
 -- the rows of the list, of which those of data alone differ
-abbrev pub row_before : {L : Types} → Families L → Role → Row (LinkOf L)
+abbrev pub row_before : {L : DataTypes} → DataFamilies L → Role → Row (LinkOf L)
 row_before layer (role.Data t) = data_row layer (family_before t)
 row_before layer r = link_row layer r
 
-abbrev pub meaning_before : {L : Types} → Families L → CurrentKinds → Attribute →
+abbrev pub meaning_before : {L : DataTypes} → DataFamilies L → CurrentKinds → Attribute →
     Result (LinkOf L) DecodeError
 meaning_before layer t a =
     row_meaning family.LinkInfo link_other (row_before layer (role_at t a)) a
 
-abbrev pub alike_before : {L : Types} → Families L → CurrentKinds → Attribute → Attribute → Bool
+abbrev pub alike_before : {L : DataTypes} → DataFamilies L → CurrentKinds → Attribute → Attribute →
+    Bool
 alike_before layer t a b = row_alike (row_before layer (role_at t a)) a b
 
 -- what a whole byte string meant, and whether two were equivalent
-unfoldable pub reading_before : {L : Types} → Families L → List ℕ →
+unfoldable pub reading_before : {L : DataTypes} → DataFamilies L → List ℕ →
     Result (List (LinkOf L)) DecodeError
 reading_before layer s =
     values_under (meaning_before layer) next_kinds no_kinds (nla_items s)
 
-unfoldable pub alike_strings_before : {L : Types} → Families L → List ℕ → List ℕ → Bool
+unfoldable pub alike_strings_before : {L : DataTypes} → DataFamilies L → List ℕ → List ℕ → Bool
 alike_strings_before layer a b =
     alike_under (alike_before layer) next_kinds no_kinds (nla_items a) (nla_items b)
 

@@ -6,10 +6,12 @@ pub mod Difference
 pub mod Items
 pub mod OneType
 pub mod Layered
+pub mod LinkVariants
 pub mod Met
 pub mod Placed
 pub mod Roles
 pub mod Strings
+pub mod TypedLayer
 pub mod Unmet
 pub mod UnmetSteps
 pub mod Walks

@@ -10,11 +10,11 @@ use Rattle.nla_frame.specs.Payload.{stripped}
 use Rattle.linkinfo_table.specs.Contents.{Contents, ListOf, Listed, NoList}
 use Rattle.linkinfo_table.specs.Last.{attributes_of}
 use Rattle.linkinfo_table.specs.Rows.{row_alike}
-use Rattle.linkinfo_data.specs.Data.{data_of, family_of}
-use Rattle.linkinfo_table.specs.Layers.{Families, Types}
+use Rattle.linkinfo_data.specs.Data.{family_of}
+use Rattle.linkinfo_data.specs.DataFamilies.{DataFamilies, DataTypes}
 use Rattle.linkinfo_data.specs.Lists.{family_in}
 use Rattle.linkinfo_data.specs.Payloads.{Payload}
-use Rattle.linkinfo_data.specs.PortData.{port_data_of, port_family_of}
+use Rattle.linkinfo_data.specs.PortData.{port_family_of}
 use Rattle.linkinfo_table.specs.Unmet.{meets}
 use Rattle.linkinfo.specs.Items.{link_row}
 use Rattle.linkinfo.specs.Roles.{role_of}
@@ -118,20 +118,20 @@ DataMeets payload have want =
     ContentsMeet payload.contents (meets (λ a b. payload.alike a.value b.value) have want) have want
 
 -- an attribute of the list, by its role
-abbrev pub RoleMeets : {L : Types} → Families L → Role → Attribute → Attribute → Type 0
+abbrev pub RoleMeets : {L : DataTypes} → DataFamilies L → Role → Attribute → Attribute → Type 0
 RoleMeets layer (role.Data tag) have want =
-    DataMeets (data_of layer (family_of tag)) have want
+    DataMeets (layer.data_of (family_of tag)) have want
 RoleMeets layer (role.PortData tag) have want =
-    DataMeets (port_data_of layer (port_family_of tag)) have want
+    DataMeets (layer.port_data_of (port_family_of tag)) have want
 RoleMeets layer r have want = IsTrue (meets (row_alike (link_row layer r)) have want)
 
 -- .. under the same kind
-pub record ItemMeets {L : Types} (layer : Families L) (have want : Item) : Type 0 where
+pub record ItemMeets {L : DataTypes} (layer : DataFamilies L) (have want : Item) : Type 0 where
   pub kind : IsTrue (same_kind (role_of_item want) have.named want.named)
   pub payload : RoleMeets layer (role_of_item want) have.nla want.nla
 
 -- a list meets another one
-abbrev pub StringMeets : {L : Types} → Families L → List ℕ → List ℕ → Type 0
+abbrev pub StringMeets : {L : DataTypes} → DataFamilies L → List ℕ → List ℕ → Type 0
 StringMeets layer have want =
     LastsMeet type_of_item (ItemMeets layer) (items_of have) (items_of want)
 
@@ -206,41 +206,42 @@ abbrev pub role_in_list : List Attribute → Attribute → Role
 role_in_list list a = role_of (kinds_named (names_in_list list)) (type_of a)
 
 -- what an attribute of the list contains
-abbrev pub contents_in : {L : Types} → Families L → Role → Contents
-contents_in layer (role.Data tag) = (data_of layer (family_of tag)).contents
-contents_in layer (role.PortData tag) = (port_data_of layer (port_family_of tag)).contents
+abbrev pub contents_in : {L : DataTypes} → DataFamilies L → Role → Contents
+contents_in layer (role.Data tag) = (layer.data_of (family_of tag)).contents
+contents_in layer (role.PortData tag) = (layer.port_data_of (port_family_of tag)).contents
 contents_in layer _ = NoList
 
 -- data that is a list of attributes of a family
-abbrev pub is_list : {L : Types} → Families L → Role → Bool
+abbrev pub is_list : {L : DataTypes} → DataFamilies L → Role → Bool
 is_list layer r = is_some (family_in (contents_in layer r))
 
 -- the payloads are equal, or data that is a list is in another order
-abbrev pub IsLikeIn : {L : Types} → Families L → List Attribute → Attribute → Attribute → Type 0
+abbrev pub IsLikeIn : {L : DataTypes} → DataFamilies L → List Attribute → Attribute → Attribute →
+    Type 0
 IsLikeIn layer list a b =
     (a.value ≡ b.value)
     ⊎ (IsTrue (is_list layer (role_in_list list a)) × IsReorderedData a.value b.value)
 
-abbrev pub IsReorderedList : {L : Types} → Families L → List ℕ → List ℕ → Type 0
+abbrev pub IsReorderedList : {L : DataTypes} → DataFamilies L → List ℕ → List ℕ → Type 0
 IsReorderedList layer s t =
     IsReordering (IsLikeIn layer (nlas_of s)) (nlas_of s) (nlas_of t)
 
 -- ---- lists with more attributes inside data
 
 -- wanted data of this type is a list, and what is wanted of it has stayed
-abbrev pub StaysFor : {L : Types} → Families L → Item → Item → Item → Type 0
+abbrev pub StaysFor : {L : DataTypes} → DataFamilies L → Item → Item → Item → Type 0
 StaysFor layer old new want =
     type_of_item want ≡ type_of_item old →
     ContentsStay (contents_in layer (role_of_item want)) want.nla.value old.nla.value new.nla.value
 
 -- an attribute of the list has stayed, or is data that has changed beside what is wanted
-pub record HasGained {L : Types} (layer : Families L) (want : List Item) (old new : Item) :
+pub record HasGained {L : DataTypes} (layer : DataFamilies L) (want : List Item) (old new : Item) :
     Type 0 where
   pub named : old.named ≡ new.named
   pub type : type_of_item old ≡ type_of_item new
   pub payload : (old.nla ≡ new.nla) ⊎ AllByRecursion (StaysFor layer old new) want
 
 -- of two lists with the same types in order each attribute is so
-abbrev pub DifferInside : {L : Types} → Families L → List ℕ → List ℕ → List ℕ → Type 0
+abbrev pub DifferInside : {L : DataTypes} → DataFamilies L → List ℕ → List ℕ → List ℕ → Type 0
 DifferInside layer want have more =
     AllZip (HasGained layer (items_of want)) (items_of have) (items_of more)

@@ -26,10 +26,10 @@ use Rattle.linkinfo_table.specs.Contents.{Contents, ListOf, NoList}
 use Rattle.linkinfo_table.specs.Last.{attributes_of}
 use Rattle.linkinfo_table.specs.Rows.{row_alike}
 use Rattle.linkinfo_table.specs.declared.last.PlacedNla.{PlacedNla}
-use Rattle.linkinfo_data.specs.Data.{data_of, family_of}
-use Rattle.linkinfo_table.specs.Layers.{Families, Types}
+use Rattle.linkinfo_data.specs.Data.{family_of}
+use Rattle.linkinfo_data.specs.DataFamilies.{DataFamilies, DataTypes}
 use Rattle.linkinfo_data.specs.Payloads.{Payload}
-use Rattle.linkinfo_data.specs.PortData.{port_data_of, port_family_of}
+use Rattle.linkinfo_data.specs.PortData.{port_family_of}
 use Rattle.linkinfo_table.specs.Unmet.{
   inner_unmet,
   item_unmet,
@@ -118,14 +118,15 @@ data_unmet payload have want =
     contents_unmet payload.contents
     (meets (λ a b. payload.alike a.value b.value) have.nla want.nla) have want
 
-abbrev pub role_unmet : {L : Types} → Families L → Role → PlacedNla → PlacedNla → Option Unmet
+abbrev pub role_unmet : {L : DataTypes} → DataFamilies L → Role → PlacedNla → PlacedNla →
+    Option Unmet
 role_unmet layer (role.Data tag) have want =
-    data_unmet (data_of layer (family_of tag)) have want
+    data_unmet (layer.data_of (family_of tag)) have want
 role_unmet layer (role.PortData tag) have want =
-    data_unmet (port_data_of layer (port_family_of tag)) have want
+    data_unmet (layer.port_data_of (port_family_of tag)) have want
 role_unmet layer r have want = whole_item_unmet (row_alike (link_row layer r)) have want
 
-abbrev pub link_unmet : {L : Types} → Families L → Option Linked → Linked → Option Unmet
+abbrev pub link_unmet : {L : DataTypes} → DataFamilies L → Option Linked → Linked → Option Unmet
 link_unmet layer None want = Some (whole_unmet family.LinkInfo want.at None)
 link_unmet layer (Some have) want =
     if same_kind (role_of_link want) have.named want.named
@@ -133,13 +134,13 @@ link_unmet layer (Some have) want =
     else Some (whole_unmet family.LinkInfo want.at (Some have.at))
 
 -- of an attribute of one list by one of another list, or none, each with the names before it
-abbrev pub linked_unmet : {L : Types} → Families L → List ℕ → List ℕ → Option PlacedNla →
+abbrev pub linked_unmet : {L : DataTypes} → DataFamilies L → List ℕ → List ℕ → Option PlacedNla →
     PlacedNla → Option Unmet
 linked_unmet layer have want found p =
     link_unmet layer (option_map (link_at have) found) (link_at want p)
 
 -- .. the first, of the attributes that count, by the last one of its type in the other list
-abbrev pub strings_unmet : {L : Types} → Families L → List ℕ → List ℕ → Option Unmet
+abbrev pub strings_unmet : {L : DataTypes} → DataFamilies L → List ℕ → List ℕ → Option Unmet
 strings_unmet layer have want =
     lasts_unmet (linked_unmet layer have want) (attributes_of have) (attributes_of want)
 

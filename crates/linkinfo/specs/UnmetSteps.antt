@@ -6,12 +6,12 @@ use Rattle.nla_frame.specs.Attribute.{Attribute}
 use Rattle.nla_frame.specs.Payload.{stripped}
 use Rattle.nla_frame.specs.NlaItems.{attribute_at}
 use Rattle.nla_frame.specs.declared.error.DecodeError.{DecodeError}
-use Rattle.linkinfo_table.specs.Layers.{Families, Types}
+use Rattle.linkinfo_data.specs.DataFamilies.{DataFamilies, DataTypes}
 use Rattle.linkinfo.specs.Items.{link_meaning}
 use Rattle.linkinfo.specs.Unmet.{Linked, kinds_named}
 
 -- an attribute means something under its kinds, and is in memory as a whole
-pub record IsAcceptedLink {L : Types} (layer : Families L) (link : Linked) : Type 0 where
+pub record IsAcceptedLink {L : DataTypes} (layer : DataFamilies L) (link : Linked) : Type 0 where
   pub means : IsOk (link_meaning layer (kinds_named link.named) link.at.nla)
   pub room : link.at.offset + (4 + length link.at.nla.value) < 2 ^ 64
 

@@ -32,7 +32,7 @@ use Rattle.nla_frame.specs.Walk.{Walk, unread}
 use Rattle.nla_frame.specs.declared.error.DecodeError.{DecodeError}
 use Rattle.linkinfo_numbers.specs.declared.tags.KindTag.{KindTag}
 use Rattle.linkinfo_numbers.specs.declared.tags.PortTag.{PortTag}
-use Rattle.linkinfo_table.specs.Layers.{Families, Types}
+use Rattle.linkinfo_data.specs.DataFamilies.{DataFamilies, DataTypes}
 use Rattle.linkinfo.specs.Layered.{LinkOf}
 use Rattle.linkinfo.specs.declared.role.CurrentKinds.{CurrentKinds}
 use Rattle.linkinfo.specs.declared.role.Role.{Role}
@@ -85,16 +85,16 @@ walk_items t ((Err n) ∷ more) = Err header_error ∷ []
 walk_items t ((Ok a) ∷ more) = item_or_error a (kinds_after t a) (λ u. walk_items u more)
 
 -- what the attributes to come mean: their values in order, or the first error
-abbrev pub values_left : {L : Types} → Families L → LinkWalk →
+abbrev pub values_left : {L : DataTypes} → DataFamilies L → LinkWalk →
     Result (List (LinkOf L)) DecodeError
 values_left layer w = values_from layer w.kinds (nla_items (left w))
 
 -- whether parsing them may allocate
-abbrev pub memory_left : {L : Types} → Families L → LinkWalk → Bool
+abbrev pub memory_left : {L : DataTypes} → DataFamilies L → LinkWalk → Bool
 memory_left layer w = memory_from layer w.kinds (nla_items (left w))
 
 -- the headers examined for them, up to the first error
-abbrev pub headers_left : {L : Types} → Families L → LinkWalk → ℕ
+abbrev pub headers_left : {L : DataTypes} → DataFamilies L → LinkWalk → ℕ
 headers_left layer w = headers_from layer w.kinds (nla_items (left w))
 
 -- the items to come

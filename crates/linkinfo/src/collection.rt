@@ -5,12 +5,11 @@ ghost use Rattle.std.specs.Prelude.{◌≡◌};
 use crate::link_info::LinkInfoOf;
 use crate::list::VecLinkInfoOf;
 use linkinfo_data::DataLayer;
-use linkinfo_table::LinkLayer;
 use nla_frame::Nlas;
 use std::{slice, vec};
 
 /// The list of these attributes, in order. The `Vec` is moved, not copied.
-impl<P: LinkLayer> From<Vec<LinkInfoOf<P>>> for VecLinkInfoOf<P> {
+impl<P: DataLayer> From<Vec<LinkInfoOf<P>>> for VecLinkInfoOf<P> {
     ghost from_gives = { λ items list. list.0 ≡ items.items };
 
     fn from(items: Vec<LinkInfoOf<P>>) -> VecLinkInfoOf<P> {

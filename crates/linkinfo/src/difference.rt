@@ -13,15 +13,15 @@ use crate::list::check_of;
 use crate::placed::ErrorIn;
 use crate::role::{CurrentKinds, Role, kinds_after, role_of};
 use linkinfo_data::{
-    DataFamily, DataLayer, Difference, InfoDataOf, InfoPortDataOf, PayloadFamily, PortFamily,
-    family_of, list_difference, port_family_of, same_payloads,
+    DataFamily, DataLayer, Difference, PayloadFamily, PortFamily, family_of, list_difference,
+    port_family_of, same_payloads,
 };
 use linkinfo_table::{PlacedNla, whole_difference};
 use nla_frame::{Bytes, Family, HeaderCount, next_attribute};
 
 /// The first difference of two attributes with data of one family: in the data if that is a list,
 /// otherwise of the attributes as a whole.
-fn data_difference<D: Drop, F: PayloadFamily<D>>(
+fn data_difference<P, F: PayloadFamily<P>>(
     family: F,
     p: &PlacedNla<'_>,
     q: &PlacedNla<'_>,
@@ -35,11 +35,11 @@ fn data_difference<D: Drop, F: PayloadFamily<D>>(
     let (x, y) = (p.nla.value(), q.nla.value());
     match family.listing() {
         Some(_) => {
-            let inside = list_difference::<D, F>(family, x, y)?;
+            let inside = list_difference::<P, F>(family, x, y)?;
             Some(inside.inside(p, q))
         }
         None => {
-            let is_same = same_payloads::<D, F>(family, x, y, &mut HeaderCount::new());
+            let is_same = same_payloads::<P, F>(family, x, y, &mut HeaderCount::new());
             whole_difference(Family::LinkInfo, is_same, p, q)
         }
     }
@@ -58,9 +58,9 @@ fn role_difference<P: DataLayer>(
     ensures { result ≡ role_difference P.families role p.now q.now }
 {
     match role {
-        Role::Data(tag) => data_difference::<InfoDataOf<P>, DataFamily>(family_of(tag), p, q),
+        Role::Data(tag) => data_difference::<P, DataFamily>(family_of(tag), p, q),
         Role::PortData(tag) => {
-            data_difference::<InfoPortDataOf<P>, PortFamily>(port_family_of(tag), p, q)
+            data_difference::<P, PortFamily>(port_family_of(tag), p, q)
         }
         _ if same_item::<P>(&p.nla, &q.nla, role, &mut HeaderCount::new()) => None,
         _ => Some(Difference::of_pair(Family::LinkInfo, p, q)),

@@ -39,8 +39,8 @@ use crate::link_info::LinkInfoOf;
 use crate::role::{CurrentKinds, Role, error, name_in};
 use crate::xstats::LinkXstats;
 use linkinfo_data::{
-    DataFamily, DataLayer, InfoDataOf, InfoPortDataOf, PayloadFamily, PortFamily, check_payload,
-    family_of, measure_payload, port_family_of, same_payloads, write_canonical_payload,
+    DataFamily, DataLayer, PayloadFamily, PortFamily, check_payload, family_of, measure_payload,
+    port_family_of, same_payloads, write_canonical_payload,
 };
 use linkinfo_numbers::{
     IFLA_INFO_DATA, IFLA_INFO_KIND, IFLA_INFO_SLAVE_DATA, IFLA_INFO_SLAVE_KIND, IFLA_INFO_XSTATS,
@@ -72,7 +72,7 @@ pub(crate) fn read_item<P: DataLayer>(
     match role {
         Role::Kind => Ok(LinkInfoOf::Kind(read_kind(alloc, nla, kinds_after.kind)?)),
         Role::Data(tag) => {
-            let data = family_of(tag).read(alloc, nla.value(), count)?;
+            let data = P::read_data(family_of(tag), alloc, nla.value(), count)?;
             Ok(LinkInfoOf::Data(data))
         }
         Role::Xstats => {
@@ -81,7 +81,7 @@ pub(crate) fn read_item<P: DataLayer>(
         }
         Role::PortKind => Ok(LinkInfoOf::PortKind(read_port_kind(alloc, nla, kinds_after.port)?)),
         Role::PortData(tag) => {
-            let data = port_family_of(tag).read(alloc, nla.value(), count)?;
+            let data = P::read_port_data(port_family_of(tag), alloc, nla.value(), count)?;
             Ok(LinkInfoOf::PortData(data))
         }
         Role::Misplaced => Err(error(nla, Cause::Order)),
@@ -143,14 +143,14 @@ pub(crate) fn check_item<P: DataLayer>(
 {
     match role {
         Role::Kind => Ok(()),
-        Role::Data(tag) => check_payload::<InfoDataOf<P>, DataFamily>(
+        Role::Data(tag) => check_payload::<P, DataFamily>(
             family_of(tag),
             nla.value(),
             count,
         ),
         Role::Xstats => Ok(()),
         Role::PortKind => Ok(()),
-        Role::PortData(tag) => check_payload::<InfoPortDataOf<P>, PortFamily>(
+        Role::PortData(tag) => check_payload::<P, PortFamily>(
             port_family_of(tag),
             nla.value(),
             count,
@@ -181,7 +181,7 @@ pub(crate) fn same_item<P: DataLayer>(
         Role::Kind => same_kind && shape_same(Shape::Name, a.value(), b.value()),
         Role::Data(tag) => {
             same_kind
-                && same_payloads::<InfoDataOf<P>, DataFamily>(
+                && same_payloads::<P, DataFamily>(
                     family_of(tag),
                     a.value(),
                     b.value(),
@@ -192,7 +192,7 @@ pub(crate) fn same_item<P: DataLayer>(
         Role::PortKind => same_kind && shape_same(Shape::Name, a.value(), b.value()),
         Role::PortData(tag) => {
             same_kind
-                && same_payloads::<InfoPortDataOf<P>, PortFamily>(
+                && same_payloads::<P, PortFamily>(
                     port_family_of(tag),
                     a.value(),
                     b.value(),
@@ -220,11 +220,11 @@ pub(crate) fn measure_item<P: DataLayer>(
     let value = nla.value();
     match role {
         Role::Kind => Ok(shape_canonical_len(Shape::Name, value)),
-        Role::Data(tag) => measure_payload::<InfoDataOf<P>, DataFamily>(family_of(tag), value),
+        Role::Data(tag) => measure_payload::<P, DataFamily>(family_of(tag), value),
         Role::Xstats => Ok(fitting(value.len())),
         Role::PortKind => Ok(shape_canonical_len(Shape::Name, value)),
         Role::PortData(tag) => {
-            measure_payload::<InfoPortDataOf<P>, PortFamily>(port_family_of(tag), value)
+            measure_payload::<P, PortFamily>(port_family_of(tag), value)
         }
         Role::Misplaced => Err(error(nla, Cause::Order)),
         Role::Unknown => Ok(fitting(value.len())),
@@ -247,7 +247,7 @@ pub(crate) fn write_item<P: DataLayer>(nla: &NlaBuffer<'_>, role: Role, buffer: 
     match role {
         Role::Kind => shape_write_attribute(Shape::Name, IFLA_INFO_KIND, value, buffer),
         Role::Data(tag) => {
-            write_payload::<InfoDataOf<P>, DataFamily>(
+            write_payload::<P, DataFamily>(
                 family_of(tag),
                 IFLA_INFO_DATA,
                 value,
@@ -257,7 +257,7 @@ pub(crate) fn write_item<P: DataLayer>(nla: &NlaBuffer<'_>, role: Role, buffer: 
         Role::Xstats => write_bytes_attribute(IFLA_INFO_XSTATS, value, buffer),
         Role::PortKind => shape_write_attribute(Shape::Name, IFLA_INFO_SLAVE_KIND, value, buffer),
         Role::PortData(tag) => {
-            write_payload::<InfoPortDataOf<P>, PortFamily>(
+            write_payload::<P, PortFamily>(
                 port_family_of(tag),
                 IFLA_INFO_SLAVE_DATA,
                 value,
@@ -272,7 +272,7 @@ pub(crate) fn write_item<P: DataLayer>(nla: &NlaBuffer<'_>, role: Role, buffer: 
 /// Writes the canonical encoding of an attribute with data to the front of the buffer, and returns
 /// its length in bytes. The payload is written first, after room for its header; then the header
 /// and the padding.
-fn write_payload<D: Drop, F: PayloadFamily<D>>(
+fn write_payload<P, F: PayloadFamily<P>>(
     family: F,
     kind: u16,
     payload: &[u8],
@@ -287,7 +287,7 @@ fn write_payload<D: Drop, F: PayloadFamily<D>>(
         (record { kind = kind; value = (F.data_of family).canonical payload.now })
         buffer.old buffer.new result }
 {
-    let len = write_canonical_payload::<D, F>(family, payload, &mut buffer[4..]);
+    let len = write_canonical_payload::<P, F>(family, payload, &mut buffer[4..]);
     write_frame(buffer, kind, len);
     4 + len.next_multiple_of(4)
 }

@@ -52,14 +52,17 @@ ghost use Rattle.linkinfo_numbers.specs.Table.{IsRead};
 ghost use Rattle.linkinfo_numbers.specs.declared.kind.InfoKind.{InfoKind};
 ghost use Rattle.linkinfo_numbers.specs.declared.port_kind.InfoPortKind.{InfoPortKind};
 ghost use Rattle.linkinfo_numbers.specs.declared.tags.KindTag.TheVariants as tag;
-ghost use Rattle.linkinfo_data.specs.Conditions.{opaque_families};
+ghost use Rattle.linkinfo_data.specs.Conditions.{conditions_of, opaque_families};
+ghost use Rattle.linkinfo_data.specs.DataFamilies.{data_families};
+ghost use Rattle.linkinfo_data.specs.Layered.{DataOf, PortDataOf};
+ghost use Rattle.linkinfo_data.specs.PeerLayer.{peer_types};
 ghost use Rattle.linkinfo.specs.Xstats.{xstats_bytes};
 ghost use Rattle.linkinfo.specs.declared.xstats.LinkXstats.{LinkXstats};
 ghost use Rattle.nla_frame.specs.declared.default_nla.DefaultNla.{DefaultNla};
 ghost use Rattle.linkinfo.specs.declared.role.Role.{Role};
 ghost use Rattle.linkinfo.specs.Difference.{strings_difference};
 ghost use Rattle.linkinfo.specs.Items.{link_meaning, link_other, link_well};
-ghost use Rattle.linkinfo.specs.Layered.{Data, LinkList, Links, PortData};
+ghost use Rattle.linkinfo.specs.Layered.{LinkList, Links};
 ghost use Rattle.linkinfo.specs.Roles.{no_kinds, role_at};
 ghost use Rattle.linkinfo.specs.Strings.{
   IsRejected,
@@ -81,7 +84,7 @@ use crate::list::VecLinkInfoOf;
 use crate::walk::{LinkInfoItem, LinkInfoWalk};
 use linkinfo_data::DataLayer;
 use linkinfo_data::laws::{families_lawful, well_formed as data_well_formed};
-use linkinfo_table::{LayerFamilies, LinkPeer};
+use linkinfo_table::{LayerFamilies, LinkLayer, LinkPeer};
 use nla_frame::ExactEq;
 
 /// What a byte string means. Each attribute in it means a value, under the current kinds before it,
@@ -144,20 +147,21 @@ pub fn equal_items()
 ///
 /// A value of that time is converted by `InfoData::parse_with_param`, on its payload and
 /// `InfoKind::Pfcp`.
-pub fn pfcp<P: DataLayer>(bytes: &[u8])
+pub fn pfcp<P: LinkLayer>(bytes: &[u8])
     ensures kind { (r : Role) → (is_pfcp_data r ≡ true) ↔ (r ≡ role.Data tag.Pfcp) }
-    ensures bytes { (t : CurrentKinds) (a : Attribute) → role_at t a ≡ role.Data tag.Pfcp →
-        meaning_before P.families t a ≡ Ok (info.Data (data_of.Other a.value)) }
-    ensures accepted { IsOk (reading P.families bytes.now) →
-        IsOk (reading_before P.families bytes.now) }
-    ensures elsewhere { HasNoPfcpData bytes.now → reading P.families bytes.now
-        ≡ reading_before P.families bytes.now }
-    ensures alike { HasNoPfcpData bytes.now → (other : List ℕ) →
-        alike_strings P.families bytes.now other
-        ≡ alike_strings_before P.families bytes.now other }
-    ensures alike_to { HasNoPfcpData bytes.now → (other : List ℕ) →
-        alike_strings P.families other bytes.now
-        ≡ alike_strings_before P.families other bytes.now }
+    ensures bytes { let layer = data_families ⟦<P as LayerFamilies>⟧.families in
+        (t : CurrentKinds) (a : Attribute) → role_at t a ≡ role.Data tag.Pfcp →
+        meaning_before layer t a ≡ Ok (info.Data (data_of.Other a.value)) }
+    ensures accepted { let layer = data_families ⟦<P as LayerFamilies>⟧.families in
+        IsOk (reading layer bytes.now) → IsOk (reading_before layer bytes.now) }
+    ensures elsewhere { let layer = data_families ⟦<P as LayerFamilies>⟧.families in
+        HasNoPfcpData bytes.now → reading layer bytes.now ≡ reading_before layer bytes.now }
+    ensures alike { let layer = data_families ⟦<P as LayerFamilies>⟧.families in
+        HasNoPfcpData bytes.now → (other : List ℕ) →
+        alike_strings layer bytes.now other ≡ alike_strings_before layer bytes.now other }
+    ensures alike_to { let layer = data_families ⟦<P as LayerFamilies>⟧.families in
+        HasNoPfcpData bytes.now → (other : List ℕ) →
+        alike_strings layer other bytes.now ≡ alike_strings_before layer other bytes.now }
 {}
 
 /// `==` of a type with `ExactEq` decides equality.
@@ -203,24 +207,26 @@ pub fn fits_inside()
 /// well formed as `linkinfo_data::laws::well_formed` says (`data`, `port_data`). Statistics follow
 /// a kind (`statistics`). An attribute kept verbatim has none of the types 1 to 5 (`unknown`).
 pub fn well_formed<P: LinkPeer>()
-    ensures list { (xs : Links ⟦<P as LayerFamilies>⟧.families) →
-        WellFormed ⟦<P as LayerFamilies>⟧.families xs ↔ Conditions P.well opaque_families xs }
-    ensures kind { (t : CurrentKinds) (k : InfoKind) →
-        link_well ⟦<P as LayerFamilies>⟧.families t (info.Kind k) ↔ IsRead kind_table IsText k }
-    ensures data { (t : CurrentKinds) (d : Data ⟦<P as LayerFamilies>⟧.families) →
-        link_well ⟦<P as LayerFamilies>⟧.families t (info.Data d) ↔ IsDataUnder P.well
-        opaque_families t.kind d }
-    ensures statistics { (t : CurrentKinds) (x : LinkXstats) →
-        link_well ⟦<P as LayerFamilies>⟧.families t (info.Xstats x)
+    ensures list { let layer = data_families ⟦<P as LayerFamilies>⟧.families in
+        (xs : Links layer) →
+        WellFormed layer xs ↔ Conditions (conditions_of P.well opaque_families) xs }
+    ensures kind { let layer = data_families ⟦<P as LayerFamilies>⟧.families in
+        (t : CurrentKinds) (k : InfoKind) →
+        link_well layer t (info.Kind k) ↔ IsRead kind_table IsText k }
+    ensures data { let layer = data_families ⟦<P as LayerFamilies>⟧.families in
+        (t : CurrentKinds) (d : DataOf (peer_types P)) → link_well layer t (info.Data d)
+        ↔ IsDataUnder (conditions_of P.well opaque_families) t.kind d }
+    ensures statistics { let layer = data_families ⟦<P as LayerFamilies>⟧.families in
+        (t : CurrentKinds) (x : LinkXstats) → link_well layer t (info.Xstats x)
         ↔ ((t.kind ≢ None) × IsBytes (xstats_bytes x)) }
-    ensures port_kind { (t : CurrentKinds) (k : InfoPortKind) →
-        link_well ⟦<P as LayerFamilies>⟧.families t (info.PortKind k) ↔ IsRead port_kind_table
-        IsText k }
-    ensures port_data { (t : CurrentKinds) (d : PortData ⟦<P as LayerFamilies>⟧.families) →
-        link_well ⟦<P as LayerFamilies>⟧.families t (info.PortData d) ↔ IsPortDataUnder P.well
-        opaque_families t.port d }
-    ensures unknown { (t : CurrentKinds) (d : DefaultNla) →
-        link_well ⟦<P as LayerFamilies>⟧.families t (info.Other d)
+    ensures port_kind { let layer = data_families ⟦<P as LayerFamilies>⟧.families in
+        (t : CurrentKinds) (k : InfoPortKind) →
+        link_well layer t (info.PortKind k) ↔ IsRead port_kind_table IsText k }
+    ensures port_data { let layer = data_families ⟦<P as LayerFamilies>⟧.families in
+        (t : CurrentKinds) (d : PortDataOf (peer_types P)) → link_well layer t (info.PortData d)
+        ↔ IsPortDataUnder (conditions_of P.well opaque_families) t.port d }
+    ensures unknown { let layer = data_families ⟦<P as LayerFamilies>⟧.families in
+        (t : CurrentKinds) (d : DefaultNla) → link_well layer t (info.Other d)
         ↔ ((d.kind < 65536) × IsBytes d.value × IsUnnamed (masked d.kind)) }
 {
     data_well_formed::<P>();

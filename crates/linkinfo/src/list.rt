@@ -49,7 +49,6 @@ use crate::role::{CurrentKinds, kinds_after, role_of};
 use crate::walk::LinkInfoWalk;
 use linkinfo_data::DataLayer;
 use linkinfo_data::laws::families_lawful;
-use linkinfo_table::LinkLayer;
 use nla_frame::{
     Bytes, DecodeError, ExactEq, HeaderCount, Nlas, ToVecError, next_attribute, nlas_to_vec,
 };
@@ -158,20 +157,22 @@ fn check_string<P: DataLayer>(bytes: &[u8], count: &mut HeaderCount) -> Result<(
 /// `to_vec`. To serialize it into an existing buffer, call `nlas_fit_len` and `emit_nlas` on
 /// `as_slice`.
 #[derive(PartialEq, Eq, Drop)]
-pub struct VecLinkInfoOf<P: LinkLayer>(pub Nlas<LinkInfoOf<P>>);
+pub struct VecLinkInfoOf<P: DataLayer>(pub Nlas<LinkInfoOf<P>>);
 
-impl<P: LinkLayer + Debug> Debug for VecLinkInfoOf<P>
+impl<P: DataLayer + Debug> Debug for VecLinkInfoOf<P>
 where
-    P::Peer: Debug,
+    P::Data: Debug,
+    P::PortData: Debug,
 {
     fn fmt<W: Write>(&self, f: &mut Formatter<W>) -> fmt::Result {
         f.debug_tuple("VecLinkInfoOf").field(&self.0).finish()
     }
 }
 
-impl<P: LinkLayer + Clone> Clone for VecLinkInfoOf<P>
+impl<P: DataLayer + Clone> Clone for VecLinkInfoOf<P>
 where
-    P::Peer: Clone,
+    P::Data: Clone,
+    P::PortData: Clone,
 {
     fn clone(&self) -> Result<VecLinkInfoOf<P>, AllocError> {
         Ok(VecLinkInfoOf(self.0.clone()?))
@@ -187,7 +188,7 @@ impl<P: DataLayer> ExactEq for VecLinkInfoOf<P> {
     ghost use Rattle.std.specs.Cmp.Lexicographic.{pointwise_decides};
     ghost use Rattle.nla_frame.specs.Derived.{fields_decide, one_field};
     ghost use Rattle.nla_frame.specs.Pairs.{◌&◌};
-    ghost use Rattle.linkinfo_data.specs.LayerVariants.{by_variants};
+    ghost use Rattle.linkinfo.specs.LinkVariants.{by_variants};
     ghost use Rattle.linkinfo.specs.contracts.link_info.LinkInfoOf.{enum};
     ghost use Rattle.linkinfo.specs.contracts.xstats.LinkXstatsExactEq.TheImpl.Laws.{
       exact-law as xstats_exact,
@@ -203,19 +204,17 @@ impl<P: DataLayer> ExactEq for VecLinkInfoOf<P> {
     };
 
     ghost exact = { fields_decide (λ list. list.0) (λ items. record { 0 = items }) (λ list. refl)
-        (pointwise_decides (by_variants enum P.PartialEq P.Peer.ExactEq P.Bond.ExactEq
-        P.Bridge.ExactEq P.Vlan.ExactEq P.Can.ExactEq P.Hsr.ExactEq P.Dsa.ExactEq P.Tun.ExactEq
-        P.BondPort.ExactEq P.BridgePort.ExactEq _
+        (pointwise_decides (by_variants enum P.PartialEq P.Data.ExactEq P.PortData.ExactEq _
         (one_field xstats_exact
         & one_field kind_exact
-        & one_field P.data_exact
+        & one_field P.Data.exact
         & one_field port_kind_exact
-        & one_field P.port_data_exact
+        & one_field P.PortData.exact
         & one_field kept_exact
         & tt))) };
 }
 
-impl<P: LinkLayer> VecLinkInfoOf<P> {
+impl<P: DataLayer> VecLinkInfoOf<P> {
     /// Returns the `Vec` of the attributes.
     pub fn into_vec(self) -> Vec<LinkInfoOf<P>>
         ensures { result.items ≡ self.0 }

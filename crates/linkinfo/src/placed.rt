@@ -10,8 +10,7 @@ use crate::item::check_item;
 use crate::role::Role;
 use crate::walk::LinkInfoWalk;
 use linkinfo_data::{
-    DataFamily, DataLayer, InfoDataOf, InfoPortDataOf, PayloadFamily, PortFamily, family_of,
-    list_error, port_family_of,
+    DataFamily, DataLayer, PayloadFamily, PortFamily, family_of, list_error, port_family_of,
 };
 use linkinfo_names::Explanation;
 use nla_frame::{Bytes, DecodeError, ExactEq, HeaderCount, NlaBuffer};
@@ -98,14 +97,14 @@ impl ExactEq for ErrorIn {
 /// The offset of the error of rejected data, in bytes from the header of the attribute that holds
 /// the data. It is that of the innermost attribute if the data is a list, otherwise that of the
 /// data's first attribute.
-fn error_in_payload<D: Drop, F: PayloadFamily<D>>(family: F, payload: &[u8]) -> usize
+fn error_in_payload<P, F: PayloadFamily<P>>(family: F, payload: &[u8]) -> usize
     ensures offset { result ≡ error_in_payload (F.data_of family).contents payload.now }
     ensures within { result ≤ 4 + length payload.now }
 {
     if family.listing().is_none() {
         return 4;
     }
-    match list_error::<D, F>(family, payload) {
+    match list_error::<P, F>(family, payload) {
         Some(offset) => 4 + offset,
         None => 4,
     }
@@ -118,10 +117,10 @@ fn error_in<P: DataLayer>(nla: &NlaBuffer<'_>, role: Role) -> usize
 {
     match role {
         Role::Data(tag) => {
-            error_in_payload::<InfoDataOf<P>, DataFamily>(family_of(tag), nla.value())
+            error_in_payload::<P, DataFamily>(family_of(tag), nla.value())
         }
         Role::PortData(tag) => {
-            error_in_payload::<InfoPortDataOf<P>, PortFamily>(port_family_of(tag), nla.value())
+            error_in_payload::<P, PortFamily>(port_family_of(tag), nla.value())
         }
         _ => 0,
     }

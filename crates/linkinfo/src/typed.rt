@@ -40,7 +40,7 @@ ghost use Rattle.linkinfo.specs.Layered.{LinkList, Links};
 ghost use Rattle.linkinfo.specs.Placed.{IsErrorAt, IsRejectedAt};
 ghost use Rattle.linkinfo.specs.Strings.{alike_strings, reading};
 ghost use Rattle.linkinfo.specs.Unmet.{strings_unmet, unmet_answer};
-ghost use Rattle.linkinfo_typed.specs.TypedLayer.{typed_layer};
+ghost use Rattle.linkinfo.specs.TypedLayer.{typed_layer};
 
 use crate::canonical::{CanonError, canon_of};
 use crate::canonical_into::{CanonIntoError, canon_into_of};

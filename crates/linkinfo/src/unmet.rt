@@ -39,8 +39,8 @@ use crate::list::check_of;
 use crate::placed::ErrorIn;
 use crate::role::{CurrentKinds, Role, role_of};
 use linkinfo_data::{
-    DataFamily, DataLayer, InfoDataOf, InfoPortDataOf, PayloadFamily, PortFamily, family_of,
-    list_unmet, port_family_of, same_payloads,
+    DataFamily, DataLayer, PayloadFamily, PortFamily, family_of, list_unmet, port_family_of,
+    same_payloads,
 };
 use linkinfo_numbers::{
     IFLA_INFO_DATA, IFLA_INFO_KIND, IFLA_INFO_SLAVE_DATA, IFLA_INFO_SLAVE_KIND, IFLA_INFO_XSTATS,
@@ -147,7 +147,7 @@ fn is_same_kind(role: Role, have: Names<'_>, want: Names<'_>) -> bool
 
 /// What of data `want` does not find in data `have` of its kind: an attribute, where data is a
 /// list.
-fn data_unmet<D: Drop, F: PayloadFamily<D>>(
+fn data_unmet<P, F: PayloadFamily<P>>(
     family: F,
     have: &PlacedNla<'_>,
     want: &PlacedNla<'_>,
@@ -164,11 +164,11 @@ fn data_unmet<D: Drop, F: PayloadFamily<D>>(
     }
     match family.listing() {
         Some(_) => {
-            let inside = list_unmet::<D, F>(family, had, wanted)?;
+            let inside = list_unmet::<P, F>(family, had, wanted)?;
             Some(inside.inside(want, have))
         }
         None => {
-            let is_met = same_payloads::<D, F>(family, had, wanted, &mut HeaderCount::new());
+            let is_met = same_payloads::<P, F>(family, had, wanted, &mut HeaderCount::new());
             unmet_as_whole(Family::LinkInfo, is_met, have, want)
         }
     }
@@ -223,9 +223,9 @@ fn role_unmet<P: DataLayer>(role: Role, have: &PlacedNla<'_>, want: &PlacedNla<'
     ensures { result ≡ role_unmet P.families role have.now want.now }
 {
     match role {
-        Role::Data(tag) => data_unmet::<InfoDataOf<P>, DataFamily>(family_of(tag), have, want),
+        Role::Data(tag) => data_unmet::<P, DataFamily>(family_of(tag), have, want),
         Role::PortData(tag) => {
-            data_unmet::<InfoPortDataOf<P>, PortFamily>(port_family_of(tag), have, want)
+            data_unmet::<P, PortFamily>(port_family_of(tag), have, want)
         }
         _ => item_unmet::<P>(role, have, want),
     }

@@ -65,7 +65,7 @@ use Rattle.linkinfo_peers.specs.Batadv.{bat_adv_rows}
 use Rattle.linkinfo_peers.specs.Wwan.{wwan_rows}
 -- End: written by tables/generate.
 use Rattle.linkinfo_data.specs.Layered.{types_of}
-use Rattle.linkinfo_data.specs.BytesLayer.{bytes_layer}
+use Rattle.linkinfo_data.specs.BytesLayer.{bytes_families}
 use Rattle.linkinfo_peers.specs.PeerMembers.{netkit_members, veth_members, vxcan_members}
 use Rattle.linkinfo_data.specs.Data.{data_of, family_of}
 use Rattle.linkinfo_data.specs.DeviceData.{devices_data_of}
@@ -150,25 +150,25 @@ table_errors f other table p =
     list_errors (meaning_in f other (λ n. row_of (table_row table n)))
     (λ a. rows_errors f other (λ n. table_row table n) (λ n. table_rows table n) a) (nla_items p)
 
-lower_errors : (f : LowerFamily) (p : List ℕ) → EachError ((lower_data_of bytes_layer f).means p)
+lower_errors : (f : LowerFamily) (p : List ℕ) → EachError ((lower_data_of bytes_families f).means p)
 -- Begin: written by tables/generate from tables/kinds (lower).
 lower_errors lower.Bridge p =
-    variant_errors (λ xs. info.Bridge xs) (values bytes_layer.bridge.meaning (nla_items p))
+    variant_errors (λ xs. info.Bridge xs) (values bytes_families.bridge.meaning (nla_items p))
     (table_errors _ _ [] p)
 lower_errors lower.Vlan p =
-    variant_errors (λ xs. info.Vlan xs) (values bytes_layer.vlan.meaning (nla_items p))
+    variant_errors (λ xs. info.Vlan xs) (values bytes_families.vlan.meaning (nla_items p))
     (table_errors _ _ [] p)
 lower_errors lower.Bond p =
-    variant_errors (λ xs. info.Bond xs) (values bytes_layer.bond.meaning (nla_items p))
+    variant_errors (λ xs. info.Bond xs) (values bytes_families.bond.meaning (nla_items p))
     (table_errors _ _ [] p)
 lower_errors lower.Hsr p =
-    variant_errors (λ xs. info.Hsr xs) (values bytes_layer.hsr.meaning (nla_items p))
+    variant_errors (λ xs. info.Hsr xs) (values bytes_families.hsr.meaning (nla_items p))
     (table_errors _ _ [] p)
 lower_errors lower.Can p =
-    variant_errors (λ xs. info.Can xs) (values bytes_layer.can.meaning (nla_items p))
+    variant_errors (λ xs. info.Can xs) (values bytes_families.can.meaning (nla_items p))
     (table_errors _ _ [] p)
 lower_errors lower.Dsa p =
-    variant_errors (λ xs. info.Dsa xs) (values bytes_layer.dsa.meaning (nla_items p))
+    variant_errors (λ xs. info.Dsa xs) (values bytes_families.dsa.meaning (nla_items p))
     (table_errors _ _ [] p)
 
 -- End: written by tables/generate.
@@ -184,7 +184,7 @@ mac_vtap_each c n =
     (λ xs. macvtap.MacAddrData xs) mac_vtap_plain_rows (128 - c) n
 
 devices_errors : (f : DeviceFamily) (p : List ℕ) →
-    EachError ((devices_data_of (types_of bytes_layer) f).means p)
+    EachError ((devices_data_of (types_of bytes_families) f).means p)
 -- Begin: written by tables/generate from tables/kinds (device).
 devices_errors device.IpVlan p =
     variant_errors (λ xs. info.IpVlan xs) (values plain.ip_vlan.meaning (nla_items p))
@@ -246,7 +246,7 @@ IsFlagged (tunnel.IpTunnel t) = HasFlags t
 IsFlagged _ = Unit {0}
 
 tunnels_errors : (f : TunnelFamily) → IsFlagged f → (p : List ℕ) →
-    EachError ((tunnels_data_of (types_of bytes_layer) f).means p)
+    EachError ((tunnels_data_of (types_of bytes_families) f).means p)
 -- Begin: written by tables/generate from tables/kinds (tunnel).
 tunnels_errors tunnel.Vxlan h p =
     variant_errors (λ xs. info.Vxlan xs) (values plain.vxlan.meaning (nla_items p))
@@ -296,15 +296,16 @@ tunnels_errors tunnel.Ip6ErSpan h p =
 sure : {X : Type 0} (x : X) → EachPayloadError (let m : Result X PayloadError = Ok x in m)
 sure x = (λ c k. absurd cc, λ e k. absurd cc)
 
-peers_errors : (f : PeeredFamily) (p : List ℕ) → EachError ((peers_data_of bytes_layer f).means p)
+peers_errors : (f : PeeredFamily) (p : List ℕ) →
+    EachError ((peers_data_of bytes_families f).means p)
 -- Begin: written by tables/generate from tables/kinds (peered).
 peers_errors peered.Tun p =
-    variant_errors (λ xs. info.Tun xs) (values bytes_layer.tun.meaning (nla_items p))
+    variant_errors (λ xs. info.Tun xs) (values bytes_families.tun.meaning (nla_items p))
     (table_errors _ _ [] p)
 peers_errors peered.Veth p =
     variant_errors (λ x. info.Veth x)
-    (first_meaning (veth_members bytes_layer.peer).meaning (nla_items p))
-    (first_errors (veth_members bytes_layer.peer).meaning
+    (first_meaning (veth_members bytes_families.peer).meaning (nla_items p))
+    (first_errors (veth_members bytes_families.peer).meaning
     (λ a.
     rows_errors family.Veth _ _
     (λ n.
@@ -315,8 +316,8 @@ peers_errors peered.Wireguard p =
     (table_errors _ _ [] p)
 peers_errors peered.Netkit p =
     variant_errors (λ xs. info.Netkit xs)
-    (values (netkit_members bytes_layer.peer).meaning (nla_items p))
-    (list_errors (netkit_members bytes_layer.peer).meaning
+    (values (netkit_members bytes_families.peer).meaning (nla_items p))
+    (list_errors (netkit_members bytes_families.peer).meaning
     (λ a.
     rows_errors family.Netkit _ _
     (λ n.
@@ -324,8 +325,8 @@ peers_errors peered.Netkit p =
     (table_rows (netkit_plain {P = Bytes}) n)) a) (nla_items p))
 peers_errors peered.Vxcan p =
     variant_errors (λ x. info.Vxcan x)
-    (first_meaning (vxcan_members bytes_layer.peer).meaning (nla_items p))
-    (first_errors (vxcan_members bytes_layer.peer).meaning
+    (first_meaning (vxcan_members bytes_families.peer).meaning (nla_items p))
+    (first_errors (vxcan_members bytes_families.peer).meaning
     (λ a.
     rows_errors family.Vxcan _ _
     (λ n.
@@ -348,7 +349,7 @@ IsFlaggedData (of.Tunnel f) = IsFlagged f
 IsFlaggedData _ = Unit {0}
 
 data_errors : (f : DataFamily) → IsFlaggedData f → (p : List ℕ) →
-    EachError ((data_of bytes_layer f).means p)
+    EachError ((data_of bytes_families f).means p)
 data_errors (of.Lower f) h p = lower_errors f p
 data_errors (of.Device f) h p = devices_errors f p
 data_errors (of.Tunnel f) h p = tunnels_errors f h p
@@ -361,14 +362,14 @@ kinds_flagged tag.SitTun = tt
 kinds_flagged tag.Ip6Tnl = tt
 kinds_flagged _ = tt
 
-ports_errors : (f : PortFamily) (p : List ℕ) → EachError ((port_data_of bytes_layer f).means p)
+ports_errors : (f : PortFamily) (p : List ℕ) → EachError ((port_data_of bytes_families f).means p)
 ports_errors port_data.Bond p =
     variant_errors (λ xs. port_info.BondPort xs)
-    (values bytes_layer.bond_port.meaning (nla_items p))
+    (values bytes_families.bond_port.meaning (nla_items p))
     (table_errors _ _ [] p)
 ports_errors port_data.Bridge p =
     variant_errors (λ xs. port_info.BridgePort xs)
-    (values bytes_layer.bridge_port.meaning (nla_items p))
+    (values bytes_families.bridge_port.meaning (nla_items p))
     (table_errors _ _ [] p)
 ports_errors port_data.Vrf p =
     variant_errors (λ xs. port_info.VrfPort xs) (values plain.vrf_port.meaning (nla_items p))
@@ -387,12 +388,12 @@ name_errors n label p =
     (own_errors (means Name p) (shape_causes Name p))
 
 role_errors : (r : Role) (a : Attribute) →
-    EachError (row_meaning family.LinkInfo link_other (link_row bytes_layer r) a)
+    EachError (row_meaning family.LinkInfo link_other (link_row bytes_families r) a)
 role_errors role.Kind a = name_errors (masked a.kind) _ a.value
 role_errors (role.Data t) a =
     labelled_errors family.LinkInfo (masked a.kind) (λ d. link.Data d)
-    (inside ((data_of bytes_layer (family_of t)).means a.value))
-    (inside_errors ((data_of bytes_layer (family_of t)).means a.value)
+    (inside ((data_of bytes_families (family_of t)).means a.value))
+    (inside_errors ((data_of bytes_families (family_of t)).means a.value)
     (data_errors (family_of t) (kinds_flagged t) a.value))
 role_errors role.Xstats a =
     labelled_errors family.LinkInfo (masked a.kind) (λ bytes. link.Xstats (xstats.Other bytes))
@@ -400,8 +401,8 @@ role_errors role.Xstats a =
 role_errors role.PortKind a = name_errors (masked a.kind) _ a.value
 role_errors (role.PortData t) a =
     labelled_errors family.LinkInfo (masked a.kind) (λ d. link.PortData d)
-    (inside ((port_data_of bytes_layer (port_family_of t)).means a.value))
-    (inside_errors ((port_data_of bytes_layer (port_family_of t)).means a.value)
+    (inside ((port_data_of bytes_families (port_family_of t)).means a.value))
+    (inside_errors ((port_data_of bytes_families (port_family_of t)).means a.value)
     (ports_errors (port_family_of t) a.value))
 role_errors role.Misplaced a = λ e k.
     subst IsReturned (ap (λ (d : DecodeError). d.cause)
@@ -409,14 +410,14 @@ role_errors role.Misplaced a = λ e k.
     (let order : IsReturned cause.Order = tt in order)
 role_errors role.Unknown a = λ e k. absurd cc
 
-link_errors : (t : CurrentKinds) (a : Attribute) → EachError (link_meaning bytes_layer t a)
+link_errors : (t : CurrentKinds) (a : Attribute) → EachError (link_meaning bytes_families t a)
 unfolding meaning_in
 link_errors t a = role_errors (role_of t (masked a.kind)) a
 
-pub reading_errors : (s : List ℕ) → EachError (reading bytes_layer s)
+pub reading_errors : (s : List ℕ) → EachError (reading bytes_families s)
 unfolding reading
 reading_errors s =
-    list_errors_under (link_meaning bytes_layer) next_kinds link_errors no_kinds (nla_items s)
+    list_errors_under (link_meaning bytes_families) next_kinds link_errors no_kinds (nla_items s)
 
 -- ---- the numbers of causes
 

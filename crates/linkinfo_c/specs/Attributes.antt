@@ -28,7 +28,7 @@ use Rattle.linkinfo_shapes.specs.declared.shape.Shape.TheVariants.{Be16, Le32}
 use Rattle.linkinfo_numbers.specs.declared.tags.KindTag.{KindTag}
 use Rattle.linkinfo_numbers.specs.declared.tags.KindTag.TheVariants as kind
 use Rattle.linkinfo_numbers.specs.declared.tags.PortTag.{PortTag}
-use Rattle.linkinfo_data.specs.BytesLayer.{bytes_layer}
+use Rattle.linkinfo_data.specs.BytesLayer.{bytes_families}
 use Rattle.linkinfo_data.specs.Data.{family_of}
 use Rattle.linkinfo_data.specs.Names.{data_name, port_data_name}
 use Rattle.linkinfo_data.specs.PortData.{port_family_of}
@@ -41,8 +41,8 @@ use Rattle.linkinfo_c.specs.Items.{attributes_in, code_in, each_after}
 
 -- the family for a kind, or for a port kind
 abbrev pub family_among : Option KindTag → Option PortTag → Option Family
-family_among (Some tag) port = data_name bytes_layer (family_of tag)
-family_among None (Some tag) = port_data_name bytes_layer (port_family_of tag)
+family_among (Some tag) port = data_name bytes_families (family_of tag)
+family_among None (Some tag) = port_data_name bytes_families (port_family_of tag)
 family_among None None = None
 
 abbrev pub family_inside : ℕ → Option Family

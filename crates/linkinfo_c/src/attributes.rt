@@ -3,7 +3,7 @@
 ghost use Rattle.std.specs.Prelude.{◌≡◌, ℕ, Option, Some};
 ghost use Rattle.std.specs.Option.{option_map};
 ghost use Rattle.nla_frame.specs.Attribute.{Attribute};
-ghost use Rattle.linkinfo_data.specs.BytesLayer.{bytes_layer};
+ghost use Rattle.linkinfo_data.specs.BytesLayer.{bytes_families};
 ghost use Rattle.linkinfo_data.specs.Names.{
   data_name,
   device_name,
@@ -72,7 +72,7 @@ fn family_inside(kind: u16) -> Option<Family>
 }
 
 fn data_name(family: DataFamily) -> Option<Family>
-    ensures { result ≡ data_name bytes_layer family }
+    ensures { result ≡ data_name bytes_families family }
 {
     match family {
         DataFamily::Lower(family) => Some(lower_name(family)),
@@ -84,7 +84,7 @@ fn data_name(family: DataFamily) -> Option<Family>
 }
 
 fn lower_name(family: LowerFamily) -> Family
-    ensures { result ≡ lower_name bytes_layer family }
+    ensures { result ≡ lower_name bytes_families family }
 {
     match family {
         // Begin: written by tables/generate from tables/kinds (lower).
@@ -99,7 +99,7 @@ fn lower_name(family: LowerFamily) -> Family
 }
 
 fn device_name(family: DeviceFamily) -> Family
-    ensures { result ≡ device_name bytes_layer family }
+    ensures { result ≡ device_name bytes_families family }
 {
     match family {
         // Begin: written by tables/generate from tables/kinds (device).
@@ -117,7 +117,7 @@ fn device_name(family: DeviceFamily) -> Family
 }
 
 fn tunnel_name(family: TunnelFamily) -> Family
-    ensures { result ≡ tunnel_name bytes_layer family }
+    ensures { result ≡ tunnel_name bytes_families family }
 {
     match family {
         // Begin: written by tables/generate from tables/kinds (tunnel).
@@ -135,7 +135,7 @@ fn tunnel_name(family: TunnelFamily) -> Family
 }
 
 fn peered_name(family: PeeredFamily) -> Family
-    ensures { result ≡ peered_name bytes_layer family }
+    ensures { result ≡ peered_name bytes_families family }
 {
     match family {
         // Begin: written by tables/generate from tables/kinds (peered).
@@ -152,7 +152,7 @@ fn peered_name(family: PeeredFamily) -> Family
 }
 
 fn port_data_name(family: PortFamily) -> Option<Family>
-    ensures { result ≡ port_data_name bytes_layer family }
+    ensures { result ≡ port_data_name bytes_families family }
 {
     match family {
         PortFamily::Bond => Some(Family::BondPort),

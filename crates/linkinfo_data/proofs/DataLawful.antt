@@ -28,6 +28,7 @@ use Rattle.linkinfo_data.proofs.Lawful.{wwan_is}
 -- End: written by tables/generate.
 use Rattle.linkinfo_table.specs.Layers.{Families, IsLayer, Types}
 use Rattle.linkinfo_data.specs.Layered.{types_of}
+use Rattle.linkinfo_data.specs.DataFamilies.{data_families}
 use Rattle.linkinfo_data.specs.DeviceData.{devices_data_of}
 use Rattle.linkinfo_data.specs.InfoData.{data_payload}
 use Rattle.linkinfo_data.specs.Lawful.{AreLawful}
@@ -52,7 +53,8 @@ use Rattle.linkinfo_data.specs.declared.port_data.PortFamily.{PortFamily}
 use Rattle.linkinfo_data.specs.declared.tunnels.TunnelFamily.TheVariants as tunnel
 use Rattle.linkinfo_data.specs.declared.tunnels.TunnelFamily.{TunnelFamily}
 
-pub data_lawful : {t : Types} (layer : Families t) → IsLayer layer → AreLawful layer
+pub data_lawful : {t : Types} (layer : Families t) → IsLayer layer →
+    AreLawful (data_families layer)
 unfolding data_payload port_data_payload
 data_lawful layer is =
     let lower_ones : (f : LowerFamily) →

@@ -3,7 +3,6 @@ use Rattle.std.specs.Prelude.{◌≡◌, ◌+◌, ℕ, Bool, true, List, IsSome,
 use Rattle.std.proofs.Common.{sym, ◌∙◌}
 use Rattle.linkinfo_table.specs.Contents.{Contents, IsPayloadContent, ListOf, NoList}
 use Rattle.linkinfo_table.specs.Difference.{inner_difference}
-use Rattle.linkinfo_table.specs.Layers.{Families, Types}
 use Rattle.linkinfo_table.specs.declared.last.PlacedNla.{PlacedNla}
 use Rattle.linkinfo_table.proofs.Differences.{
   accepted_where,
@@ -13,6 +12,7 @@ use Rattle.linkinfo_table.proofs.Differences.{
   ok_true,
   payloads_none,
 }
+use Rattle.linkinfo_data.specs.DataFamilies.{DataFamilies, DataTypes}
 use Rattle.linkinfo_data.specs.Lists.{difference_in, error_in, family_in}
 use Rattle.linkinfo_data.specs.Lawful.{AreLawful}
 use Rattle.linkinfo_data.specs.Located.{AreLocated, IsLocated}
@@ -51,7 +51,7 @@ is_located payload canon law = record {
       (list_errs payload.contents (λ p. is_ok (payload.means p)) payload.alike law.contained is s);
 }
 
-pub data_located : {t : Types} (layer : Families t) → AreLawful layer → AreLocated layer
+pub data_located : {t : DataTypes} (layer : DataFamilies t) → AreLawful layer → AreLocated layer
 data_located layer law = record {
   link = λ f. is_located _ _ (law.link f);
   port = λ f. is_located _ _ (law.port f);

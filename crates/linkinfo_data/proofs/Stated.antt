@@ -29,6 +29,8 @@ use Rattle.linkinfo_table.specs.Layers.{Families, Types}
 use Rattle.linkinfo_peers.specs.PeerMembers.{netkit_members, veth_members, vxcan_members}
 use Rattle.linkinfo_data.specs.Layered.{types_of}
 use Rattle.linkinfo_data.specs.Conditions.{AreOfLayer, AreStated, FamilyConditions, IsStated}
+use Rattle.linkinfo_data.specs.Conditions.{conditions_of}
+use Rattle.linkinfo_data.specs.DataFamilies.{data_families}
 use Rattle.linkinfo_data.specs.Conditions.{device_conditions, list_stated}
 use Rattle.linkinfo_data.specs.Conditions.{lower_conditions, one_stated, peered_conditions}
 use Rattle.linkinfo_data.specs.Conditions.{port_data_conditions, tunnel_conditions}
@@ -53,7 +55,8 @@ use Rattle.linkinfo_data.specs.declared.tunnels.TunnelFamily.TheVariants as tunn
 use Rattle.linkinfo_data.specs.declared.tunnels.TunnelFamily.{TunnelFamily}
 
 pub data_stated : {t : Types} (layer : Families t) (well : FamilyConditions t) →
-    AreOfLayer layer well → AreStated layer well
+    AreOfLayer layer well →
+    AreStated (data_families layer) (conditions_of layer.peer.well well)
 data_stated layer well is =
     let lower_ones : (f : LowerFamily) →
     IsStated (lower_data_of layer f) (λ d. lower_conditions layer.peer.well well f d) = elim [

@@ -26,10 +26,9 @@ use Rattle.linkinfo_tunnels.specs.Conditions.{bare_udp_conditions}
 use Rattle.linkinfo_peers.specs.Conditions.{bat_adv_conditions}
 use Rattle.linkinfo_peers.specs.Conditions.{wwan_conditions}
 -- End: written by tables/generate.
-use Rattle.linkinfo_data.specs.Data.{data_of}
+use Rattle.linkinfo_data.specs.DataFamilies.{DataFamilies, DataTypes, data_types}
 use Rattle.linkinfo_table.specs.Layers.{Families, Types}
 use Rattle.linkinfo_data.specs.Payloads.{Labelled, Payload, as_first, as_list}
-use Rattle.linkinfo_data.specs.PortData.{port_data_of}
 use Rattle.linkinfo_data.specs.declared.data.DataFamily.{DataFamily}
 use Rattle.linkinfo_data.specs.declared.data.DataFamily.TheVariants as of
 use Rattle.linkinfo_data.specs.declared.devices.DeviceFamily.{DeviceFamily}
@@ -197,6 +196,19 @@ port_data_conditions peer well port_of.Team d = IsListOf (λ xs. port.TeamPort x
     d
 port_data_conditions peer well port_of.Raw d = Labelled (λ bytes. port.Other bytes) IsBytes d
 
+-- a condition of data, and one of port data, under each family
+pub record DataConditions (t : DataTypes) : Type 1 where
+  pub link : DataFamily → t.Data → Type 0
+  pub port : PortFamily → t.PortData → Type 0
+
+-- those over a layer, given those of a peer and of the families of the layer
+abbrev pub conditions_of : {t : Types} → (t.Peer → Type 0) → FamilyConditions t →
+    DataConditions (data_types t)
+conditions_of peer well = record {
+  link = data_conditions peer well;
+  port = port_data_conditions peer well;
+}
+
 -- ---- a value of a payload is well formed if and only if it meets these conditions
 
 abbrev pub IsStated : {X : Type 0} → Payload X → (X → Type 0) → Type 0
@@ -216,8 +228,7 @@ pub one_stated : {A X : Type 0} (m : Members A) (variant : A → X) (conditions 
 one_stated m variant conditions same d =
     (λ w. (w.0, (same w.0).0 w.1, w.2), λ h. (h.0, (same h.0).1 h.1, h.2))
 
-pub record AreStated {t : Types} (layer : Families t) (well : FamilyConditions t) : Type 0 where
-  pub link : (f : DataFamily) →
-      IsStated (data_of layer f) (λ d. data_conditions layer.peer.well well f d)
-  pub port : (f : PortFamily) →
-      IsStated (port_data_of layer f) (λ d. port_data_conditions layer.peer.well well f d)
+pub record AreStated {t : DataTypes} (layer : DataFamilies t) (well : DataConditions t) : Type 0
+  where
+  pub link : (f : DataFamily) → IsStated (layer.data_of f) (well.link f)
+  pub port : (f : PortFamily) → IsStated (layer.port_data_of f) (well.port f)

@@ -2,6 +2,7 @@ pub mod Asking
 pub mod BytesLayer
 pub mod Conditions
 pub mod Data
+pub mod DataFamilies
 pub mod DeviceData
 pub mod Encoding
 pub mod InfoData

@@ -1,11 +1,9 @@
 -- Two accepted lists have a difference if and only if they are not equivalent, and a list has an
 -- error if and only if it is rejected.
 use Rattle.std.specs.Prelude.{◌≡◌, ◌↔◌, ℕ, true, List, None, IsOk, IsSome}
-use Rattle.linkinfo_table.specs.Layers.{Families, Types}
-use Rattle.linkinfo_data.specs.Data.{data_of}
+use Rattle.linkinfo_data.specs.DataFamilies.{DataFamilies, DataTypes}
 use Rattle.linkinfo_data.specs.Lists.{difference_in, error_in, family_in}
 use Rattle.linkinfo_data.specs.Payloads.{Payload}
-use Rattle.linkinfo_data.specs.PortData.{port_data_of}
 use Rattle.linkinfo_data.specs.declared.data.DataFamily.{DataFamily}
 use Rattle.linkinfo_data.specs.declared.port_data.PortFamily.{PortFamily}
 
@@ -25,6 +23,6 @@ pub record IsLocated {X : Type 0} (payload : Payload X) : Type 0 where
   pub difference : DiffersWhereUnlike payload
   pub error : ErrsWhereRejected payload
 
-pub record AreLocated {t : Types} (layer : Families t) : Type 0 where
-  pub link : (f : DataFamily) → IsLocated (data_of layer f)
-  pub port : (f : PortFamily) → IsLocated (port_data_of layer f)
+pub record AreLocated {t : DataTypes} (layer : DataFamilies t) : Type 0 where
+  pub link : (f : DataFamily) → IsLocated (layer.data_of f)
+  pub port : (f : PortFamily) → IsLocated (layer.port_data_of f)

@@ -1,11 +1,10 @@
 //! The family of a kind's data, and data parsed, validated, compared and written by family.
 
 ghost use Rattle.std.specs.Prelude.{◌≡◌};
-ghost use Rattle.linkinfo_data.specs.Data.{data_known, data_of, family_of};
+ghost use Rattle.linkinfo_data.specs.Data.{family_of};
 
 use crate::ask::Ask;
 use crate::devices::DeviceFamily;
-use crate::info_data::InfoDataOf;
 use crate::layer::DataLayer;
 use crate::lower::LowerFamily;
 use crate::payload_family::PayloadFamily;
@@ -105,17 +104,19 @@ pub fn family_of(tag: KindTag) -> DataFamily
     }
 }
 
-impl<P: DataLayer> PayloadFamily<InfoDataOf<P>> for DataFamily {
-    ghost data_of = { data_of P.families };
+impl<P: DataLayer> PayloadFamily<P> for DataFamily {
+    type Data = P::Data;
 
-    ghost known = { data_known P.families };
+    ghost data_of = { P.families.data_of };
+
+    ghost known = { P.data_known };
 
     fn read(
         self,
         alloc: Global,
         payload: &[u8],
         count: &mut HeaderCount,
-    ) -> Result<InfoDataOf<P>, DecodeError> {
+    ) -> Result<P::Data, DecodeError> {
         P::read_data(self, alloc, payload, count)
     }
 

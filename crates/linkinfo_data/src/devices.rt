@@ -70,7 +70,9 @@ macro_rules! of_device {
     };
 }
 
-impl<P: LinkLayer> PayloadFamily<InfoDataOf<P>> for DeviceFamily {
+impl<P: LinkLayer> PayloadFamily<P> for DeviceFamily {
+    type Data = InfoDataOf<P>;
+
     ghost data_of = { λ family. devices_data_of (types_of ⟦<P as LayerFamilies>⟧.families) family };
 
     ghost known = { λ family. devices_known (types_of ⟦<P as LayerFamilies>⟧.families) family };

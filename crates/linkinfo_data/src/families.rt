@@ -101,7 +101,7 @@ pub trait PlainFamilies {
 
     ghost team_port: { Members (Opaque 9) };
 
-    ghost bytes_layer: { Families (peer_types Bytes) };
+    ghost bytes_families: { Families (peer_types Bytes) };
 }
 
 /// The type that implements `PlainFamilies`. Only specifications name it: no call takes or returns
@@ -159,5 +159,5 @@ impl PlainFamilies for Plain {
 
     ghost team_port = { ⟦<InfoTeamPort as ListedFamily>⟧.members tt };
 
-    ghost bytes_layer = { ⟦<Bytes as LayerFamilies>⟧.families };
+    ghost bytes_families = { ⟦<Bytes as LayerFamilies>⟧.families };
 }

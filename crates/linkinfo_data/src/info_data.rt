@@ -8,7 +8,6 @@ ghost use Rattle.linkinfo_data.specs.InfoData.{data_payload};
 use crate::data::family_of;
 use crate::encode::Encode;
 use crate::layer::DataLayer;
-use crate::payload_family::PayloadFamily;
 // Begin: written by tables/generate from tables/kinds (device).
 use linkinfo_devices::{
     InfoIpVlan, InfoIpVtap, InfoIpoib, InfoMacSec, InfoMacVlan, InfoMacVtap, InfoRmNet, InfoVrf,
@@ -116,7 +115,7 @@ pub enum InfoDataOf<P: LinkLayer> {
 /// The data of a link (`IFLA_INFO_DATA`), with peers kept as bytes, and opaque families.
 pub type InfoData = InfoDataOf<Bytes>;
 
-impl<P: DataLayer> InfoDataOf<P> {
+impl<P: LinkLayer> InfoDataOf<P> {
     /// Parses the payload of `IFLA_INFO_DATA` of a link of this kind.
     ///
     /// The result holds the attributes of the kind's family, or the bytes if the kind has none.
@@ -132,13 +131,15 @@ impl<P: DataLayer> InfoDataOf<P> {
         kind: &InfoKind,
     ) -> Result<InfoDataOf<P>, DecodeError>
         ensures answer { Gives (λ value. value) result
-            ((data_of P.families (family_of (tag_of_kind kind.now))).means payload.now) }
-        ensures certain { CertainUnless ((data_of P.families
+            ((data_of ⟦<P as LayerFamilies>⟧.families
+            (family_of (tag_of_kind kind.now))).means payload.now) }
+        ensures certain { CertainUnless ((data_of ⟦<P as LayerFamilies>⟧.families
             (family_of (tag_of_kind kind.now))).needs_memory payload.now) (λ value. value) result
-            ((data_of P.families (family_of (tag_of_kind kind.now))).means payload.now) }
+            ((data_of ⟦<P as LayerFamilies>⟧.families
+            (family_of (tag_of_kind kind.now))).means payload.now) }
     {
         let mut count = HeaderCount::new();
-        family_of(kind.tag()).read(alloc, payload, &mut count)
+        P::read_data(family_of(kind.tag()), alloc, payload, &mut count)
     }
 }
 
@@ -196,10 +197,10 @@ impl<P: LinkLayer> InfoDataOf<P> {
 
 /// Written as an attribute of type 2 (`IFLA_INFO_DATA`). The payload is the encodings of the
 /// attributes, one after another.
-impl<P: DataLayer> Nla for InfoDataOf<P> {
+impl<P: LinkLayer> Nla for InfoDataOf<P> {
     ghost use Rattle.linkinfo_data.specs.InfoData.{data_attribute};
 
-    ghost attribute = { data_attribute P.families };
+    ghost attribute = { data_attribute ⟦<P as LayerFamilies>⟧.families };
 
     fn value_len(&self) -> usize {
         self.fit_len().unwrap_or(0)
@@ -223,6 +224,83 @@ impl<P: DataLayer> Nla for InfoDataOf<P> {
     }
 }
 
-impl<P: DataLayer> ExactEq for InfoDataOf<P> {
-    ghost exact = { P.data_exact };
+impl<P: LinkLayer> ExactEq for InfoDataOf<P> {
+    ghost use Rattle.std.specs.Cmp.Lexicographic.{bytes_decides, pointwise_decides};
+    ghost use Rattle.std.proofs.Common.{rules};
+    ghost use Rattle.nla_frame.specs.Derived.{one_field};
+    ghost use Rattle.nla_frame.specs.Pairs.{◌&◌};
+    ghost use Rattle.linkinfo_data.specs.LayerVariants.{by_variants};
+    ghost use Rattle.linkinfo_data.specs.contracts.info_data.InfoDataOf.{enum};
+    // Begin: written by tables/generate from tables/kinds (laws).
+    ghost use Rattle.linkinfo_tunnels.specs.contracts.vxlan.InfoVxlanExactEq.TheImpl.Laws as vxlan;
+    ghost use Rattle.linkinfo_devices.specs.contracts.macvlan.InfoMacVlanExactEq.TheImpl.Laws
+        as mac_vlan;
+    ghost use Rattle.linkinfo_devices.specs.contracts.macvtap.InfoMacVtapExactEq.TheImpl.Laws
+        as mac_vtap;
+    ghost use Rattle.linkinfo_tunnels.specs.contracts.gre.InfoGreExactEq.TheImpl.Laws as gre;
+    ghost use Rattle.linkinfo_tunnels.specs.contracts.gre6.InfoGre6ExactEq.TheImpl.Laws as gre6;
+    ghost use Rattle.linkinfo_tunnels.specs.contracts.ip_tunnel.InfoIpTunnelExactEq.TheImpl.Laws
+        as ip_tunnel;
+    ghost use Rattle.linkinfo_tunnels.specs.contracts.vti.InfoVtiExactEq.TheImpl.Laws as vti;
+    ghost use Rattle.linkinfo_devices.specs.contracts.vrf.InfoVrfExactEq.TheImpl.Laws as vrf;
+    ghost use Rattle.linkinfo_tunnels.specs.contracts.gtp.InfoGtpExactEq.TheImpl.Laws as gtp;
+    ghost use Rattle.linkinfo_devices.specs.contracts.ipoib.InfoIpoibExactEq.TheImpl.Laws as ipoib;
+    ghost use Rattle.linkinfo_devices.specs.contracts.xfrm.InfoXfrmExactEq.TheImpl.Laws as xfrm;
+    ghost use Rattle.linkinfo_devices.specs.contracts.macsec.InfoMacSecExactEq.TheImpl.Laws
+        as mac_sec;
+    ghost use Rattle.linkinfo_tunnels.specs.contracts.geneve.InfoGeneveExactEq.TheImpl.Laws
+        as geneve;
+    ghost use Rattle.linkinfo_tunnels.specs.contracts.amt.InfoAmtExactEq.TheImpl.Laws as amt;
+    ghost use Rattle.linkinfo_peers.specs.contracts.batadv.InfoBatAdvExactEq.TheImpl.Laws
+        as bat_adv;
+    ghost use Rattle.linkinfo_tunnels.specs.contracts.bare_udp.InfoBareUdpExactEq.TheImpl.Laws
+        as bare_udp;
+    ghost use Rattle.linkinfo_peers.specs.contracts.wwan.InfoWwanExactEq.TheImpl.Laws as wwan;
+    ghost use Rattle.linkinfo_devices.specs.contracts.rmnet.InfoRmNetExactEq.TheImpl.Laws as rm_net;
+    // End: written by tables/generate.
+
+    ghost exact = { by_variants enum P.PartialEq P.Peer.ExactEq P.Bond.ExactEq
+        P.Bridge.ExactEq
+        P.Vlan.ExactEq P.Can.ExactEq P.Hsr.ExactEq P.Dsa.ExactEq P.Tun.ExactEq P.BondPort.ExactEq
+        P.BridgePort.ExactEq _
+        -- Begin: written by tables/generate from tables/kinds (fields).
+        (one_field (pointwise_decides P.Bridge.exact)
+        & one_field (pointwise_decides P.Tun.exact)
+        & one_field (pointwise_decides P.Vlan.exact)
+        & one_field (λ x y. Prim.search (rules, P.Peer.exact))
+        & one_field (pointwise_decides vxlan.exact-law)
+        & one_field (pointwise_decides P.Bond.exact)
+        & one_field (pointwise_decides (λ a b. Prim.search rules))
+        & one_field (pointwise_decides (λ a b. Prim.search rules))
+        & one_field (pointwise_decides mac_vlan.exact-law)
+        & one_field (pointwise_decides mac_vtap.exact-law)
+        & one_field (pointwise_decides gre.exact-law)
+        & one_field (pointwise_decides gre6.exact-law)
+        & one_field (pointwise_decides ip_tunnel.exact-law)
+        & one_field (pointwise_decides gre.exact-law)
+        & one_field (pointwise_decides gre6.exact-law)
+        & one_field (pointwise_decides vti.exact-law)
+        & one_field (pointwise_decides vrf.exact-law)
+        & one_field (pointwise_decides gtp.exact-law)
+        & one_field (pointwise_decides ipoib.exact-law)
+        & one_field (pointwise_decides (λ a b. Prim.search rules))
+        & one_field (pointwise_decides xfrm.exact-law)
+        & one_field (pointwise_decides mac_sec.exact-law)
+        & one_field (pointwise_decides P.Hsr.exact)
+        & one_field (pointwise_decides geneve.exact-law)
+        & one_field (pointwise_decides (λ a b. Prim.search (rules, P.Peer.exact)))
+        & one_field (λ x y. Prim.search (rules, P.Peer.exact))
+        & one_field (pointwise_decides amt.exact-law)
+        & one_field (pointwise_decides bat_adv.exact-law)
+        & one_field (pointwise_decides bare_udp.exact-law)
+        & one_field (pointwise_decides wwan.exact-law)
+        & one_field (pointwise_decides P.Can.exact)
+        & one_field (pointwise_decides P.Dsa.exact)
+        & one_field (pointwise_decides gre.exact-law)
+        & one_field (pointwise_decides gre6.exact-law)
+        & one_field (pointwise_decides (λ a b. Prim.search rules))
+        & one_field (pointwise_decides rm_net.exact-law)
+        -- End: written by tables/generate.
+        & one_field bytes_decides
+        & tt) };
 }

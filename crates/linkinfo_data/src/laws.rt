@@ -1,12 +1,19 @@
 //! Laws of data, each the contract of a function without code.
 
-ghost use Rattle.linkinfo_data.specs.Conditions.{AreStated, opaque_families, own_conditions};
+ghost use Rattle.linkinfo_data.specs.Conditions.{
+  AreStated,
+  conditions_of,
+  opaque_families,
+  own_conditions,
+};
+ghost use Rattle.linkinfo_data.specs.DataFamilies.{data_families};
 ghost use Rattle.linkinfo_data.specs.Lawful.{AreLawful};
 ghost use Rattle.linkinfo_data.specs.Located.{AreLocated};
 ghost use Rattle.linkinfo_data.specs.Names.{AreNamed, AreNamedAfter};
 
 use crate::layer::DataLayer;
-use linkinfo_table::{LayerFamilies, LinkPeer};
+use linkinfo_table::layer_laws::lawful;
+use linkinfo_table::{LayerFamilies, LinkLayer, LinkPeer};
 
 /// Data and port data of each family are lawful: by the laws of the rows of the family, or by those
 /// of the layer that supplies it.
@@ -17,9 +24,11 @@ pub fn families_lawful<P: DataLayer>()
 /// Each error of data of a family is `(Frame, 0, Header)` or names the family. The same holds for
 /// port data. The families' names are in the tables `data_name` and `port_data_name`, in which the
 /// families that the layer supplies have the names that it gives.
-pub fn errors_named<P: DataLayer>()
-    ensures { AreNamed P.families }
-{}
+pub fn errors_named<P: LinkLayer>()
+    ensures { AreNamed ⟦<P as LayerFamilies>⟧.families }
+{
+    lawful::<P>();
+}
 
 /// At a peer the families that its layer supplies have their names in the tables of names.
 pub fn opaque_names<P: LinkPeer>()
@@ -31,13 +40,15 @@ pub fn opaque_names<P: LinkPeer>()
 /// (`specs/Conditions.antt` of its crate). Without a family the variant is `Other`, which holds
 /// bytes. The families of a peer's layer are opaque.
 pub fn well_formed<P: LinkPeer>()
-    ensures { AreStated ⟦<P as LayerFamilies>⟧.families opaque_families }
+    ensures { let layer = ⟦<P as LayerFamilies>⟧.families in
+        AreStated (data_families layer) (conditions_of layer.peer.well opaque_families) }
 {}
 
 /// The same of any layer: attributes of a family that the layer supplies meet the condition of that
 /// family.
-pub fn well_formed_by<P: DataLayer>()
-    ensures { AreStated P.families (own_conditions P.families) }
+pub fn well_formed_by<P: LinkLayer>()
+    ensures { let layer = ⟦<P as LayerFamilies>⟧.families in
+        AreStated (data_families layer) (conditions_of layer.peer.well (own_conditions layer)) }
 {}
 
 /// Laws of `list_difference` and `list_error`, for families whose data or port data is a list. Two

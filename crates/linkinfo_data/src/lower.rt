@@ -51,7 +51,9 @@ macro_rules! of_lower {
     };
 }
 
-impl<P: LinkLayer> PayloadFamily<InfoDataOf<P>> for LowerFamily {
+impl<P: LinkLayer> PayloadFamily<P> for LowerFamily {
+    type Data = InfoDataOf<P>;
+
     ghost data_of = { λ family. lower_data_of ⟦<P as LayerFamilies>⟧.families family };
 
     ghost known = { λ family. lower_known ⟦<P as LayerFamilies>⟧.families family };

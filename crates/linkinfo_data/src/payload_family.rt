@@ -33,18 +33,26 @@ use linkinfo_table::{Difference, Unmet};
 use nla_frame::{DecodeError, Family, HeaderCount};
 use std::alloc::Global;
 
-/// A choice of a family: payloads are parsed, validated, compared and written as data of the family
-/// chosen.
-pub trait PayloadFamily<D: Drop>: Copy {
+/// A choice of a family: over the layer `P`, payloads are parsed, validated, compared and written
+/// as data of the family chosen.
+pub trait PayloadFamily<P>: Copy {
+    /// What payloads are parsed as.
+    type Data: Drop;
+
     /// What payloads mean under each choice.
-    ghost data_of: { Self → Payload D };
+    ghost data_of: { Self → Payload Self.Data };
 
     /// Parses a payload.
     ///
     /// The error is that of the first attribute in byte order whose header or value is rejected, or
     /// `(Frame, 0, Memory)` if an allocation fails first. The count rises by the headers examined,
     /// at most a quarter of the payload's bytes. Requires that a `usize` can count them.
-    fn read(self, alloc: Global, payload: &[u8], count: &mut HeaderCount) -> Result<D, DecodeError>
+    fn read(
+        self,
+        alloc: Global,
+        payload: &[u8],
+        count: &mut HeaderCount,
+    ) -> Result<Self::Data, DecodeError>
         requires { count.old + length payload.now / 4 < 2 ^ 64 }
         ensures { Reads (λ value. value) result ((data_of self).means payload.now)
             ((data_of self).needs_memory payload.now) ((data_of self).headers payload.now)
@@ -73,7 +81,7 @@ pub trait PayloadFamily<D: Drop>: Copy {
 /// The count rises by the headers examined, at most a quarter of the payload's bytes. Requires
 /// that a `usize` can count them. Does not allocate.
 #[inline(always)]
-pub fn check_payload<D: Drop, F: PayloadFamily<D>>(
+pub fn check_payload<P, F: PayloadFamily<P>>(
     family: F,
     payload: &[u8],
     count: &mut HeaderCount,
@@ -90,7 +98,7 @@ pub fn check_payload<D: Drop, F: PayloadFamily<D>>(
 /// The count rises by the headers examined, at most a quarter of the bytes of both payloads.
 /// Requires that both payloads are accepted, and that a `usize` can count the headers. Does not
 /// allocate.
-pub fn same_payloads<D: Drop, F: PayloadFamily<D>>(
+pub fn same_payloads<P, F: PayloadFamily<P>>(
     family: F,
     a: &[u8],
     b: &[u8],
@@ -109,7 +117,7 @@ pub fn same_payloads<D: Drop, F: PayloadFamily<D>>(
 /// Validates a payload as `check_payload` does, and measures it in the same pass. The error is that
 /// of the payload. Of an accepted payload the result is the length, in bytes, of the canonical
 /// payload of the data that it parses as, or `None` if that is above 65531. Does not allocate.
-pub fn measure_payload<D: Drop, F: PayloadFamily<D>>(
+pub fn measure_payload<P, F: PayloadFamily<P>>(
     family: F,
     payload: &[u8],
 ) -> Result<Option<usize>, DecodeError>
@@ -124,7 +132,7 @@ pub fn measure_payload<D: Drop, F: PayloadFamily<D>>(
 ///
 /// Requires that the payload is accepted, that its canonical payload has at most 65531 bytes,
 /// and that the buffer has room for it. Does not allocate.
-pub fn write_canonical_payload<D: Drop, F: PayloadFamily<D>>(
+pub fn write_canonical_payload<P, F: PayloadFamily<P>>(
     family: F,
     payload: &[u8],
     buffer: &mut [u8],
@@ -142,7 +150,7 @@ pub fn write_canonical_payload<D: Drop, F: PayloadFamily<D>>(
 ///
 /// If a header is rejected, the offset is that of the header. Each header is examined at most
 /// twice. Does not allocate. Requires that payloads of this family are lists (`listing`).
-pub fn list_error<D: Drop, F: PayloadFamily<D>>(family: F, payload: &[u8]) -> Option<usize>
+pub fn list_error<P, F: PayloadFamily<P>>(family: F, payload: &[u8]) -> Option<usize>
     requires { IsSome (family_in (F.data_of family).contents) }
     ensures error { result ≡ error_in (F.data_of family).contents payload.now }
     ensures within { IfSome result (λ n. n ≤ length payload.now) }
@@ -157,7 +165,7 @@ pub fn list_error<D: Drop, F: PayloadFamily<D>>(family: F, payload: &[u8]) -> Op
 /// then the first pair in these. Offsets are in bytes from the beginning of each payload. Each
 /// header is examined at most twice. Does not allocate. Requires that both payloads are accepted,
 /// and that payloads of this family are lists (`listing`).
-pub fn list_difference<D: Drop, F: PayloadFamily<D>>(
+pub fn list_difference<P, F: PayloadFamily<P>>(
     family: F,
     a: &[u8],
     b: &[u8],
@@ -181,7 +189,7 @@ pub fn list_difference<D: Drop, F: PayloadFamily<D>>(
 /// attribute is met by one of its type, in any order. A list of the family itself is met as a
 /// whole. Offsets count from the beginning of each payload. Does not allocate. Requires that both
 /// payloads are accepted, and that payloads of this family are lists (`listing`).
-pub fn list_unmet<D: Drop, F: PayloadFamily<D>>(
+pub fn list_unmet<P, F: PayloadFamily<P>>(
     family: F,
     have: &[u8],
     want: &[u8],

@@ -69,7 +69,9 @@ macro_rules! of_peered {
     };
 }
 
-impl<P: LinkLayer> PayloadFamily<InfoDataOf<P>> for PeeredFamily {
+impl<P: LinkLayer> PayloadFamily<P> for PeeredFamily {
+    type Data = InfoDataOf<P>;
+
     ghost data_of = { λ family. peers_data_of ⟦<P as LayerFamilies>⟧.families family };
 
     ghost known = { λ family. peers_known ⟦<P as LayerFamilies>⟧.families family };

@@ -7,7 +7,6 @@ ghost use Rattle.linkinfo_data.specs.PortData.{
   port_data_of,
   port_data_payload,
   port_family_of,
-  port_known,
 };
 
 use crate::ask::Ask;
@@ -75,17 +74,19 @@ pub enum InfoPortDataOf<P: LinkLayer> {
 /// The data of a port (`IFLA_INFO_SLAVE_DATA`), with opaque families.
 pub type InfoPortData = InfoPortDataOf<Bytes>;
 
-impl<P: DataLayer> PayloadFamily<InfoPortDataOf<P>> for PortFamily {
-    ghost data_of = { port_data_of P.families };
+impl<P: DataLayer> PayloadFamily<P> for PortFamily {
+    type Data = P::PortData;
 
-    ghost known = { port_known P.families };
+    ghost data_of = { P.families.port_data_of };
+
+    ghost known = { P.port_data_known };
 
     fn read(
         self,
         alloc: Global,
         payload: &[u8],
         count: &mut HeaderCount,
-    ) -> Result<InfoPortDataOf<P>, DecodeError> {
+    ) -> Result<P::PortData, DecodeError> {
         P::read_port_data(self, alloc, payload, count)
     }
 
@@ -95,7 +96,7 @@ impl<P: DataLayer> PayloadFamily<InfoPortDataOf<P>> for PortFamily {
     }
 }
 
-impl<P: DataLayer> InfoPortDataOf<P> {
+impl<P: LinkLayer> InfoPortDataOf<P> {
     /// Parses the payload of `IFLA_INFO_SLAVE_DATA` of a port of this kind.
     ///
     /// The result holds the attributes of the port kind's family, or the bytes if the port kind has
@@ -110,17 +111,17 @@ impl<P: DataLayer> InfoPortDataOf<P> {
         kind: &InfoPortKind,
     ) -> Result<InfoPortDataOf<P>, DecodeError>
         ensures answer { Gives (λ value. value) result
-            ((port_data_of P.families
+            ((port_data_of ⟦<P as LayerFamilies>⟧.families
             (port_family_of (tag_of_port_kind kind.now))).means payload.now) }
         ensures certain { CertainUnless
-            ((port_data_of P.families
+            ((port_data_of ⟦<P as LayerFamilies>⟧.families
             (port_family_of (tag_of_port_kind kind.now))).needs_memory payload.now)
             (λ value. value) result
-            ((port_data_of P.families
+            ((port_data_of ⟦<P as LayerFamilies>⟧.families
             (port_family_of (tag_of_port_kind kind.now))).means payload.now) }
     {
         let mut count = HeaderCount::new();
-        port_family_of(kind.tag()).read(alloc, payload, &mut count)
+        P::read_port_data(port_family_of(kind.tag()), alloc, payload, &mut count)
     }
 }
 
@@ -144,10 +145,10 @@ impl<P: LinkLayer> InfoPortDataOf<P> {
 
 /// Written as an attribute of type 5 (`IFLA_INFO_SLAVE_DATA`). The payload is the encodings of the
 /// attributes, one after another.
-impl<P: DataLayer> Nla for InfoPortDataOf<P> {
+impl<P: LinkLayer> Nla for InfoPortDataOf<P> {
     ghost use Rattle.linkinfo_data.specs.PortData.{port_data_attribute};
 
-    ghost attribute = { port_data_attribute P.families };
+    ghost attribute = { port_data_attribute ⟦<P as LayerFamilies>⟧.families };
 
     fn value_len(&self) -> usize {
         self.fit_len().unwrap_or(0)
@@ -171,6 +172,22 @@ impl<P: DataLayer> Nla for InfoPortDataOf<P> {
     }
 }
 
-impl<P: DataLayer> ExactEq for InfoPortDataOf<P> {
-    ghost exact = { P.port_data_exact };
+impl<P: LinkLayer> ExactEq for InfoPortDataOf<P> {
+    ghost use Rattle.std.specs.Cmp.Lexicographic.{bytes_decides, pointwise_decides};
+    ghost use Rattle.std.proofs.Common.{rules};
+    ghost use Rattle.nla_frame.specs.Derived.{one_field};
+    ghost use Rattle.nla_frame.specs.Pairs.{◌&◌};
+    ghost use Rattle.linkinfo_data.specs.LayerVariants.{by_variants};
+    ghost use Rattle.linkinfo_data.specs.contracts.port_data.InfoPortDataOf.{enum};
+    ghost use Rattle.linkinfo_devices.specs.contracts.vrf.InfoVrfExactEq.TheImpl.Laws as vrf;
+
+    ghost exact = { by_variants enum P.PartialEq P.Peer.ExactEq
+        P.Bond.ExactEq P.Bridge.ExactEq P.Vlan.ExactEq P.Can.ExactEq P.Hsr.ExactEq P.Dsa.ExactEq
+        P.Tun.ExactEq P.BondPort.ExactEq P.BridgePort.ExactEq _
+        (one_field (pointwise_decides P.BondPort.exact)
+        & one_field (pointwise_decides P.BridgePort.exact)
+        & one_field (pointwise_decides vrf.exact-law)
+        & one_field (pointwise_decides (λ a b. Prim.search rules))
+        & one_field bytes_decides
+        & tt) };
 }

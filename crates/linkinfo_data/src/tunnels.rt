@@ -102,7 +102,9 @@ macro_rules! of_tunnel {
     };
 }
 
-impl<P: LinkLayer> PayloadFamily<InfoDataOf<P>> for TunnelFamily {
+impl<P: LinkLayer> PayloadFamily<P> for TunnelFamily {
+    type Data = InfoDataOf<P>;
+
     ghost data_of = { λ family. tunnels_data_of (types_of ⟦<P as LayerFamilies>⟧.families) family };
 
     ghost known = { λ family. tunnels_known (types_of ⟦<P as LayerFamilies>⟧.families) family };

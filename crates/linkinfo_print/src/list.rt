@@ -42,8 +42,7 @@ ghost use Rattle.linkinfo_print.specs.ListErrors.{IsListError};
 use crate::members::{put_some, text_json};
 use linkinfo::{
     Bytes, ErrorAt, IFLA_INFO_DATA, IFLA_INFO_KIND, IFLA_INFO_SLAVE_DATA, IFLA_INFO_SLAVE_KIND,
-    IFLA_INFO_XSTATS, InfoDataOf, InfoPortData, KindTag, LinkInfoItem, LinkInfoWalk, PortTag,
-    check_at,
+    IFLA_INFO_XSTATS, KindTag, LinkInfoItem, LinkInfoWalk, PortTag, check_at,
 };
 use linkinfo_data::{DataFamily, PayloadFamily, PortFamily, family_of, port_family_of};
 use linkinfo_view::{Table, attributes_json, hex_json};
@@ -97,7 +96,7 @@ pub fn table_of(tag: KindTag) -> Option<Table>
         KindTag::Ip6Tnl => Some(Table::Ip6Tunnel),
         _ => {
             let family: DataFamily = family_of(tag);
-            table_in(PayloadFamily::<InfoDataOf<Bytes>>::listing(family))
+            table_in(PayloadFamily::<Bytes>::listing(family))
         }
     }
 }
@@ -107,7 +106,7 @@ pub fn port_table_of(tag: PortTag) -> Option<Table>
     ensures { result ≡ port_table_of tag }
 {
     let family: PortFamily = port_family_of(tag);
-    table_in(PayloadFamily::<InfoPortData>::listing(family))
+    table_in(PayloadFamily::<Bytes>::listing(family))
 }
 
 /// Data by its rows, or in hex.

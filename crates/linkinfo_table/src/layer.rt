@@ -16,7 +16,7 @@ use std::fmt::Debug;
 /// each kind of link and of port whose attributes are theirs.
 ///
 /// Every `LinkPeer` is a layer, whose peers are of that type, and whose families are opaque.
-pub trait LinkLayer {
+pub trait LinkLayer: Eq + Sized {
     /// The peer of a veth, vxcan or netkit link.
     type Peer: LinkPeer;
 

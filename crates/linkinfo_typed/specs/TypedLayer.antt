@@ -4,5 +4,5 @@ use Rattle.linkinfo_table.specs.Layers.{Families}
 use Rattle.linkinfo_typed.specs.TypedTypes.{typed_types}
 use Rattle.linkinfo_typed.specs.contracts.layer.OverBytesTypedFamilies.TheImpl.{ghosts}
 
-abbrev pub typed_layer : Families (typed_types Bytes)
-typed_layer = ghosts.typed_layer
+abbrev pub typed_families : Families (typed_types Bytes)
+typed_families = ghosts.typed_families

@@ -1,6 +1,6 @@
 //! Laws of the typed families, each the contract of a function without code.
 
-ghost use Rattle.std.specs.Prelude.{◌≡◌, ◌↔◌, ℕ, [], ◌∷◌};
+ghost use Rattle.std.specs.Prelude.{◌≡◌, ◌↔◌, ℕ, false, true, [], ◌∷◌};
 // Begin: written by tables/generate from tables/families (conditions).
 ghost use Rattle.linkinfo_typed.specs.Conditions.{
   bond_conditions,
@@ -90,6 +90,17 @@ pub fn families_inside()
     ensures vlan { ⟦<InfoVlan as LinkFamily>⟧.inside
         ≡ family.VlanQosMapping ∷ family.VlanQosMapping ∷ [] }
 // End: written by tables/generate.
+{}
+
+/// Which families have lists that are sets: in a request, each attribute of such a list is met by
+/// one of its type, in any order.
+pub fn sets()
+    // Begin: written by tables/generate from tables/families (sets).
+    ensures bond { ⟦<InfoBond as LinkFamily>⟧.IS_SET ≡ false }
+    ensures can { ⟦<InfoCan as LinkFamily>⟧.IS_SET ≡ false }
+    ensures vlan_qos_mapping { ⟦<VlanQosMapping as LinkFamily>⟧.IS_SET ≡ true }
+    ensures vlan { ⟦<InfoVlan as LinkFamily>⟧.IS_SET ≡ false }
+    // End: written by tables/generate.
 {}
 
 /// What an attribute holds whose row has a list of another family: the list that its payload is, or

@@ -47,7 +47,7 @@ impl<P: LinkPeer> LinkLayer for Typed<P> {
 
 /// What the typed layer over peers that are kept as bytes defines.
 pub trait TypedFamilies {
-    ghost typed_layer: { Families (typed_types Bytes) };
+    ghost typed_families: { Families (typed_types Bytes) };
 }
 
 /// The type that implements `TypedFamilies`. Only specifications name it: no call takes or returns
@@ -55,5 +55,5 @@ pub trait TypedFamilies {
 pub struct OverBytes;
 
 impl TypedFamilies for OverBytes {
-    ghost typed_layer = { ⟦<Typed<Bytes> as LayerFamilies>⟧.families };
+    ghost typed_families = { ⟦<Typed<Bytes> as LayerFamilies>⟧.families };
 }

@@ -52,9 +52,11 @@ class Judging(unittest.TestCase):
         above = f"./proofs/Above.antt:9:1: {rests.format('below')}above"
         answer = f"./proofs/laws/law/Answers.antt:4:5: {rests.format('above')}returns"
         line = "fn a::laws::law: not proved"
-        law = edit("a::laws::law")
+        law = edit("a::laws::law", is_outside=True)
         told = Report("\n".join([lemma, above, answer, line, "only=1 proved=0"]), 1)
         self.assertEqual(told.rejects(law), lemma)
+        # (an edit of the body itself)
+        self.assertEqual(told.rejects(edit("a::laws::law")), "")
         # (a lemma on which nothing of the function rests; one that names what the edit took away)
         apart = Report("\n".join([lemma, answer, line, "only=1 proved=0"]), 1)
         self.assertEqual(apart.rejects(law), "")

@@ -57,46 +57,48 @@ const OTHER_TABLE: [u8; 8] = [8, 0, 1, 0, 6, 0, 0, 0];
 const SHORT: [u8; 5] = [5, 0, 1, 0, 5];
 
 /// Asserts that the family accepts the payload.
-fn accepts<D: Drop, F: PayloadFamily<D>>(rt: &impl Abort, family: F, payload: &[u8])
+fn accepts<P, F: PayloadFamily<P>>(rt: &impl Abort, family: F, payload: &[u8])
     ensures { IsOk ((F.data_of family).means payload.now) }
 {
     assert!(rt; payload.len() < 1000);
     let mut count = HeaderCount::new();
-    let checked = check_payload::<D, F>(family, payload, &mut count);
+    let checked = check_payload::<P, F>(family, payload, &mut count);
     assert!(rt; checked.is_ok());
 }
 
 /// Returns whether two accepted payloads are equivalent in the family, and the number of headers
 /// examined.
-fn are_same<D: Drop, F: PayloadFamily<D>>(
+fn are_same<P, F: PayloadFamily<P>>(
     rt: &impl Abort,
     family: F,
     a: &[u8],
     b: &[u8],
 ) -> (bool, usize) {
-    accepts::<D, F>(rt, family, a);
-    accepts::<D, F>(rt, family, b);
+    accepts::<P, F>(rt, family, a);
+    accepts::<P, F>(rt, family, b);
     let mut count = HeaderCount::new();
-    let same = same_payloads::<D, F>(family, a, b, &mut count);
+    let same = same_payloads::<P, F>(family, a, b, &mut count);
     (same, count.get())
 }
 
 /// Asserts that the family of vrf parses `TABLE` as the data, that `TABLE` is equivalent to
 /// `MARKED` and to no other, and that a table of one byte is rejected.
-fn has_tables<D: Drop + PartialEq, F: PayloadFamily<D>>(
+fn has_tables<P, F: PayloadFamily<P>>(
     rt: &impl Abort,
     alloc: Global,
     family: F,
-    data: D,
-) {
+    data: F::Data,
+) where
+    F::Data: PartialEq,
+{
     let mut count = HeaderCount::new();
-    let read = PayloadFamily::<D>::read(family, alloc, &TABLE, &mut count).expect(rt, "data");
+    let read = PayloadFamily::<P>::read(family, alloc, &TABLE, &mut count).expect(rt, "data");
     assert_holds(rt, &TABLE, read == data);
     assert_equal(rt, &TABLE, &count.get(), &1);
-    let (same, headers) = are_same::<D, F>(rt, family, &TABLE, &MARKED);
+    let (same, headers) = are_same::<P, F>(rt, family, &TABLE, &MARKED);
     assert_holds(rt, &MARKED, same);
     assert_equal(rt, &MARKED, &headers, &2);
-    let (same, _) = are_same::<D, F>(rt, family, &TABLE, &OTHER_TABLE);
+    let (same, _) = are_same::<P, F>(rt, family, &TABLE, &OTHER_TABLE);
     assert_holds(rt, &OTHER_TABLE, !same);
     let error = DecodeError {
         family: Family::Vrf,
@@ -104,7 +106,7 @@ fn has_tables<D: Drop + PartialEq, F: PayloadFamily<D>>(
         cause: Cause::Length,
     };
     let mut count = HeaderCount::new();
-    let checked = check_payload::<D, F>(family, &SHORT, &mut count);
+    let checked = check_payload::<P, F>(family, &SHORT, &mut count);
     assert_equal(rt, &SHORT, &checked, &Err(error));
     assert_equal(rt, &SHORT, &count.get(), &1);
 }
@@ -115,7 +117,7 @@ fn payloads_of_families(rt: HostRuntime) {
     data_laws::families_lawful::<Bytes>();
     data_laws::errors_named::<Bytes>();
     let data = InfoData::Vrf(nlas(&rt, alloc, [InfoVrf::TableId(5)]));
-    has_tables(&rt, alloc, family_of(KindTag::Vrf), data);
+    has_tables::<Bytes, DataFamily>(&rt, alloc, family_of(KindTag::Vrf), data);
     let data = InfoPortData::VrfPort(nlas(&rt, alloc, [InfoVrf::TableId(5)]));
-    has_tables(&rt, alloc, port_family_of(PortTag::Vrf), data);
+    has_tables::<Bytes, PortFamily>(&rt, alloc, port_family_of(PortTag::Vrf), data);
 }

@@ -2,8 +2,8 @@
 
 use super::assertions::{assert_equal, assert_holds, bytes_of};
 use linkinfo::{
-    Family, HeaderCount, InfoData, InfoPortData, KindTag, PayloadFamily, PortTag, Unmet,
-    check_payload, family_of, is_equal, list_unmet, port_family_of,
+    Bytes, Family, HeaderCount, KindTag, PayloadFamily, PortTag, Unmet, check_payload, family_of,
+    is_equal, list_unmet, port_family_of,
 };
 use std::alloc::Global;
 use std::process::Abort;
@@ -147,20 +147,20 @@ fn unmet(family: Family, at: &Option<(u16, usize, Option<usize>)>) -> Option<Unm
 }
 
 /// What `have` lacks of `want`, two payloads that are accepted as lists of a family.
-fn unmet_of<D: Drop, F: PayloadFamily<D>>(
+fn unmet_of<P, F: PayloadFamily<P>>(
     rt: &impl Abort,
     family: F,
     have: &[u8],
     want: &[u8],
 ) -> Option<Unmet> {
     let _name = family.listing().expect(rt, "a list");
-    check_payload::<D, F>(family, have, &mut HeaderCount::new()).expect(rt, "accepted");
-    check_payload::<D, F>(family, want, &mut HeaderCount::new()).expect(rt, "accepted");
-    list_unmet::<D, F>(family, have, want)
+    check_payload::<P, F>(family, have, &mut HeaderCount::new()).expect(rt, "accepted");
+    check_payload::<P, F>(family, want, &mut HeaderCount::new()).expect(rt, "accepted");
+    list_unmet::<P, F>(family, have, want)
 }
 
 /// Asserts what is not met in a case, of a family.
-fn assert_case<D: Drop, F: PayloadFamily<D>>(
+fn assert_case<P, F: PayloadFamily<P>>(
     rt: &impl Abort,
     alloc: Global,
     (have, want, at): &Case,
@@ -168,7 +168,7 @@ fn assert_case<D: Drop, F: PayloadFamily<D>>(
     name: Family,
 ) {
     let (had, wanted) = (bytes_of(rt, alloc, have), bytes_of(rt, alloc, want));
-    let found = unmet_of::<D, F>(rt, family, &had, &wanted);
+    let found = unmet_of::<P, F>(rt, family, &had, &wanted);
     let expected = unmet(name, at);
     assert_equal(rt, &(name, want), &found, &expected);
     if let (Some(found), Some(expected)) = (found, expected) {
@@ -177,7 +177,7 @@ fn assert_case<D: Drop, F: PayloadFamily<D>>(
 }
 
 /// Asserts what is not met in each case, of a family.
-fn assert_cases<D: Drop, F: PayloadFamily<D>>(
+fn assert_cases<P, F: PayloadFamily<P>>(
     rt: &impl Abort,
     alloc: Global,
     cases: &[Case],
@@ -185,13 +185,13 @@ fn assert_cases<D: Drop, F: PayloadFamily<D>>(
     name: Family,
 ) {
     for case in cases {
-        assert_case::<D, F>(rt, alloc, case, family, name);
+        assert_case::<P, F>(rt, alloc, case, family, name);
     }
 }
 
 /// Asserts what is not met in each case, of the data of a link.
 fn assert_data(rt: &impl Abort, alloc: Global, cases: &[Case], tag: KindTag, name: Family) {
-    assert_cases::<InfoData, _>(rt, alloc, cases, family_of(tag), name);
+    assert_cases::<Bytes, _>(rt, alloc, cases, family_of(tag), name);
 }
 
 #[test]
@@ -205,7 +205,7 @@ fn data_is_met(rt: HostRuntime) {
 fn port_data_is_met(rt: HostRuntime) {
     let family = port_family_of(PortTag::Bridge);
     let name = Family::BridgePort;
-    assert_cases::<InfoPortData, _>(&rt, rt.alloc(), NO_ROWS, family, name);
+    assert_cases::<Bytes, _>(&rt, rt.alloc(), NO_ROWS, family, name);
 }
 
 /// Kinds, and the families whose attributes their data is a list of.
@@ -233,11 +233,11 @@ const PORT_LISTINGS: &[(PortTag, Option<Family>)] = &[
 #[test]
 fn families_of_lists(rt: HostRuntime) {
     for (tag, name) in LISTINGS {
-        let found = PayloadFamily::<InfoData>::listing(family_of(*tag));
+        let found = PayloadFamily::<Bytes>::listing(family_of(*tag));
         assert_equal(&rt, tag, &found, name);
     }
     for (tag, name) in PORT_LISTINGS {
-        let found = PayloadFamily::<InfoPortData>::listing(port_family_of(*tag));
+        let found = PayloadFamily::<Bytes>::listing(port_family_of(*tag));
         assert_equal(&rt, tag, &found, name);
     }
 }

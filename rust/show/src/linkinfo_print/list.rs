@@ -10,8 +10,7 @@ use crate::linkinfo_view::{Table, attributes_json, hex_json};
 use linkinfo::layers::data::{DataFamily, PayloadFamily, PortFamily, family_of, port_family_of};
 use linkinfo::layers::link::{
     Bytes, ErrorAt, IFLA_INFO_DATA, IFLA_INFO_KIND, IFLA_INFO_SLAVE_DATA, IFLA_INFO_SLAVE_KIND,
-    IFLA_INFO_XSTATS, InfoDataOf, InfoPortData, KindTag, LinkInfoItem, LinkInfoWalk, PortTag,
-    check_at,
+    IFLA_INFO_XSTATS, KindTag, LinkInfoItem, LinkInfoWalk, PortTag, check_at,
 };
 use linkinfo::layers::nla_frame::{Family, without_nul};
 use thiserror::Error;
@@ -53,7 +52,7 @@ pub fn table_of(tag: KindTag) -> Option<Table> {
         KindTag::Ip6Tnl => Some(Table::Ip6Tunnel),
         _ => {
             let family: DataFamily = family_of(tag);
-            table_in(PayloadFamily::<InfoDataOf<Bytes>>::listing(family))
+            table_in(PayloadFamily::<Bytes>::listing(family))
         }
     }
 }
@@ -61,7 +60,7 @@ pub fn table_of(tag: KindTag) -> Option<Table> {
 /// The rows that show the port data of a port kind. Data without rows is opaque bytes.
 pub fn port_table_of(tag: PortTag) -> Option<Table> {
     let family: PortFamily = port_family_of(tag);
-    table_in(PayloadFamily::<InfoPortData>::listing(family))
+    table_in(PayloadFamily::<Bytes>::listing(family))
 }
 
 /// Data by its rows, or in hex.

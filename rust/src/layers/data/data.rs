@@ -4,7 +4,6 @@
 
 use crate::layers::data::ask::Ask;
 use crate::layers::data::devices::DeviceFamily;
-use crate::layers::data::info_data::InfoDataOf;
 use crate::layers::data::layer::DataLayer;
 use crate::layers::data::lower::LowerFamily;
 use crate::layers::data::payload_family::PayloadFamily;
@@ -84,8 +83,10 @@ pub fn family_of(tag: KindTag) -> DataFamily {
     }
 }
 
-impl<P: DataLayer> PayloadFamily<InfoDataOf<P>> for DataFamily {
-    fn read(self, payload: &[u8], count: &mut HeaderCount) -> Result<InfoDataOf<P>, DecodeError> {
+impl<P: DataLayer> PayloadFamily<P> for DataFamily {
+    type Data = P::Data;
+
+    fn read(self, payload: &[u8], count: &mut HeaderCount) -> Result<P::Data, DecodeError> {
         P::read_data(self, payload, count)
     }
 

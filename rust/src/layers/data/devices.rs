@@ -64,7 +64,9 @@ macro_rules! of_device {
     };
 }
 
-impl<P: LinkLayer> PayloadFamily<InfoDataOf<P>> for DeviceFamily {
+impl<P: LinkLayer> PayloadFamily<P> for DeviceFamily {
+    type Data = InfoDataOf<P>;
+
     fn read(self, payload: &[u8], count: &mut HeaderCount) -> Result<InfoDataOf<P>, DecodeError> {
         Ok(of_device!(self, read(payload, count)))
     }

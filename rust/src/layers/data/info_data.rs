@@ -5,7 +5,6 @@
 use crate::layers::data::data::family_of;
 use crate::layers::data::encode::Encode;
 use crate::layers::data::layer::DataLayer;
-use crate::layers::data::payload_family::PayloadFamily;
 // Begin: written by tables/generate from tables/kinds (device).
 use crate::layers::devices::{
     InfoIpVlan, InfoIpVtap, InfoIpoib, InfoMacSec, InfoMacVlan, InfoMacVtap, InfoRmNet, InfoVrf,
@@ -114,7 +113,7 @@ pub enum InfoDataOf<P: LinkLayer> {
 /// The data of a link (`IFLA_INFO_DATA`), with peers kept as bytes, and opaque families.
 pub type InfoData = InfoDataOf<Bytes>;
 
-impl<P: DataLayer> InfoDataOf<P> {
+impl<P: LinkLayer> InfoDataOf<P> {
     /// Parses the payload of `IFLA_INFO_DATA` of a link of this kind.
     ///
     /// The result holds the attributes of the kind's family, or the bytes if the kind has none.
@@ -128,7 +127,7 @@ impl<P: DataLayer> InfoDataOf<P> {
     /// [`InfoKind::Other`]: crate::layers::numbers::InfoKind::Other
     pub fn parse_with_param(payload: &[u8], kind: &InfoKind) -> Result<InfoDataOf<P>, DecodeError> {
         let mut count = HeaderCount::new();
-        family_of(kind.tag()).read(payload, &mut count)
+        P::read_data(family_of(kind.tag()), payload, &mut count)
     }
 }
 
@@ -181,7 +180,7 @@ impl<P: LinkLayer> InfoDataOf<P> {
 
 /// Written as an attribute of type 2 (`IFLA_INFO_DATA`). The payload is the encodings of the
 /// attributes, one after another.
-impl<P: DataLayer> Nla for InfoDataOf<P> {
+impl<P: LinkLayer> Nla for InfoDataOf<P> {
     #[inline]
     fn value_len(&self) -> usize {
         self.fit_len().unwrap_or(0)
@@ -208,4 +207,6 @@ impl<P: DataLayer> Nla for InfoDataOf<P> {
     }
 }
 
-impl<P: DataLayer> ExactEq for InfoDataOf<P> {}
+impl<P: LinkLayer> ExactEq for InfoDataOf<P> {
+    // End: written by tables/generate.
+}

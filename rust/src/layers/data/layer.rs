@@ -11,17 +11,26 @@ use crate::layers::data::info_data::InfoDataOf;
 use crate::layers::data::payload_family::PayloadFamily;
 use crate::layers::data::port_data::{InfoPortDataOf, PortFamily};
 use crate::layers::devices::InfoVrfPort;
-use crate::layers::nla_frame::{Bytes, DecodeError, HeaderCount};
+use crate::layers::nla_frame::{Bytes, DecodeError, ExactEq, HeaderCount};
 use crate::layers::peers::InfoTeamPort;
 use crate::layers::table::LinkLayer;
 
-/// A layer, with the calls on data and port data of its families. Every [`LinkLayer`] that is `Eq`,
-/// as peers are, implements it, and no other type does.
+/// A layer, as what is made of data and of port data sees it: the types of both, and the calls on
+/// them by family. Every [`LinkLayer`] implements it, with [`InfoDataOf`] and [`InfoPortDataOf`],
+/// and no other type does.
 ///
 /// Contracts of generic code speak of `families`, and know of them only that they are lawful.
 ///
 /// [`LinkLayer`]: crate::layers::table::LinkLayer
-pub trait DataLayer: LinkLayer + Eq + Sized {
+/// [`InfoDataOf`]: crate::layers::data::InfoDataOf
+/// [`InfoPortDataOf`]: crate::layers::data::InfoPortDataOf
+pub trait DataLayer: Eq + Sized {
+    /// The data of a link over the layer.
+    type Data: Eq + ExactEq;
+
+    /// The data of a port over the layer.
+    type PortData: Eq + ExactEq;
+
     /// Parses a payload as data of a family, as [`PayloadFamily::read`] does.
     ///
     /// # Panics
@@ -34,7 +43,7 @@ pub trait DataLayer: LinkLayer + Eq + Sized {
         family: DataFamily,
         payload: &[u8],
         count: &mut HeaderCount,
-    ) -> Result<InfoDataOf<Self>, DecodeError>;
+    ) -> Result<Self::Data, DecodeError>;
 
     /// Makes a call that returns no parsed value, for payloads of data of a family. Does not
     /// allocate.
@@ -51,7 +60,7 @@ pub trait DataLayer: LinkLayer + Eq + Sized {
     ) -> Q::Answer;
 
     /// Returns the length of the canonical payload of data, or `None` if it does not fit.
-    fn data_fit_len(value: &InfoDataOf<Self>) -> Option<usize>;
+    fn data_fit_len(value: &Self::Data) -> Option<usize>;
 
     /// Writes the canonical payload of data to the front of the buffer, and returns its length.
     ///
@@ -59,7 +68,7 @@ pub trait DataLayer: LinkLayer + Eq + Sized {
     ///
     /// May panic where a condition of the caller that is named here does not hold. Where it does
     /// not panic then, the result has no meaning.
-    fn write_data(value: &InfoDataOf<Self>, buffer: &mut [u8]) -> usize;
+    fn write_data(value: &Self::Data, buffer: &mut [u8]) -> usize;
 
     /// Parses a payload as port data of a family, as [`PayloadFamily::read`] does.
     ///
@@ -73,7 +82,7 @@ pub trait DataLayer: LinkLayer + Eq + Sized {
         family: PortFamily,
         payload: &[u8],
         count: &mut HeaderCount,
-    ) -> Result<InfoPortDataOf<Self>, DecodeError>;
+    ) -> Result<Self::PortData, DecodeError>;
 
     /// Makes a call that returns no parsed value, for payloads of port data of a family. Does not
     /// allocate.
@@ -90,7 +99,7 @@ pub trait DataLayer: LinkLayer + Eq + Sized {
     ) -> Q::Answer;
 
     /// Returns the length of the canonical payload of port data, or `None` if it does not fit.
-    fn port_data_fit_len(value: &InfoPortDataOf<Self>) -> Option<usize>;
+    fn port_data_fit_len(value: &Self::PortData) -> Option<usize>;
 
     /// Writes the canonical payload of port data to the front of the buffer, and returns its
     /// length.
@@ -99,7 +108,7 @@ pub trait DataLayer: LinkLayer + Eq + Sized {
     ///
     /// May panic where a condition of the caller that is named here does not hold. Where it does
     /// not panic then, the result has no meaning.
-    fn write_port_data(value: &InfoPortDataOf<Self>, buffer: &mut [u8]) -> usize;
+    fn write_port_data(value: &Self::PortData, buffer: &mut [u8]) -> usize;
 }
 
 /// Matches a family of ports, and expands `$call!`, of `calls`, for its data.
@@ -116,8 +125,10 @@ macro_rules! of_port {
     };
 }
 
-impl<L: LinkLayer + Eq> DataLayer for L {
-    // End: written by tables/generate.
+impl<L: LinkLayer> DataLayer for L {
+    type Data = InfoDataOf<L>;
+
+    type PortData = InfoPortDataOf<L>;
 
     fn read_data(
         family: DataFamily,
@@ -141,18 +152,10 @@ impl<L: LinkLayer + Eq> DataLayer for L {
         buffer: &mut [u8],
     ) -> Q::Answer {
         match family {
-            DataFamily::Lower(family) => {
-                PayloadFamily::<InfoDataOf<L>>::ask(family, question, count, buffer)
-            }
-            DataFamily::Device(family) => {
-                PayloadFamily::<InfoDataOf<L>>::ask(family, question, count, buffer)
-            }
-            DataFamily::Tunnel(family) => {
-                PayloadFamily::<InfoDataOf<L>>::ask(family, question, count, buffer)
-            }
-            DataFamily::Peered(family) => {
-                PayloadFamily::<InfoDataOf<L>>::ask(family, question, count, buffer)
-            }
+            DataFamily::Lower(family) => PayloadFamily::<L>::ask(family, question, count, buffer),
+            DataFamily::Device(family) => PayloadFamily::<L>::ask(family, question, count, buffer),
+            DataFamily::Tunnel(family) => PayloadFamily::<L>::ask(family, question, count, buffer),
+            DataFamily::Peered(family) => PayloadFamily::<L>::ask(family, question, count, buffer),
             DataFamily::Raw => question.of_bytes(count, buffer),
         }
     }

@@ -46,7 +46,9 @@ macro_rules! of_lower {
     };
 }
 
-impl<P: LinkLayer> PayloadFamily<InfoDataOf<P>> for LowerFamily {
+impl<P: LinkLayer> PayloadFamily<P> for LowerFamily {
+    type Data = InfoDataOf<P>;
+
     fn read(self, payload: &[u8], count: &mut HeaderCount) -> Result<InfoDataOf<P>, DecodeError> {
         Ok(of_lower!(self, read(payload, count)))
     }

@@ -8,9 +8,12 @@ use crate::layers::data::ask::{
 use crate::layers::nla_frame::{DecodeError, Family, HeaderCount};
 use crate::layers::table::{Difference, Unmet};
 
-/// A choice of a family: payloads are parsed, validated, compared and written as data of the family
-/// chosen.
-pub trait PayloadFamily<D>: Copy {
+/// A choice of a family: over the layer `P`, payloads are parsed, validated, compared and written
+/// as data of the family chosen.
+pub trait PayloadFamily<P>: Copy {
+    /// What payloads are parsed as.
+    type Data;
+
     /// Parses a payload.
     ///
     /// The error is that of the first attribute in byte order whose header or value is rejected, or
@@ -21,7 +24,7 @@ pub trait PayloadFamily<D>: Copy {
     ///
     /// May panic where a condition of the caller that is named here does not hold. Where it does
     /// not panic then, the result has no meaning.
-    fn read(self, payload: &[u8], count: &mut HeaderCount) -> Result<D, DecodeError>;
+    fn read(self, payload: &[u8], count: &mut HeaderCount) -> Result<Self::Data, DecodeError>;
 
     /// Makes a call that returns no parsed value, for the family chosen. Does not allocate.
     ///
@@ -48,7 +51,7 @@ pub trait PayloadFamily<D>: Copy {
 /// May panic where a condition of the caller that is named here does not hold. Where it does
 /// not panic then, the result has no meaning.
 #[inline(always)]
-pub fn check_payload<D, F: PayloadFamily<D>>(
+pub fn check_payload<P, F: PayloadFamily<P>>(
     family: F,
     payload: &[u8],
     count: &mut HeaderCount,
@@ -66,7 +69,7 @@ pub fn check_payload<D, F: PayloadFamily<D>>(
 ///
 /// May panic where a condition of the caller that is named here does not hold. Where it does
 /// not panic then, the result has no meaning.
-pub fn same_payloads<D, F: PayloadFamily<D>>(
+pub fn same_payloads<P, F: PayloadFamily<P>>(
     family: F,
     a: &[u8],
     b: &[u8],
@@ -80,7 +83,7 @@ pub fn same_payloads<D, F: PayloadFamily<D>>(
 /// payload of the data that it parses as, or `None` if that is above 65531. Does not allocate.
 ///
 /// [`check_payload`]: crate::layers::data::check_payload
-pub fn measure_payload<D, F: PayloadFamily<D>>(
+pub fn measure_payload<P, F: PayloadFamily<P>>(
     family: F,
     payload: &[u8],
 ) -> Result<Option<usize>, DecodeError> {
@@ -97,7 +100,7 @@ pub fn measure_payload<D, F: PayloadFamily<D>>(
 ///
 /// May panic where a condition of the caller that is named here does not hold. Where it does
 /// not panic then, the result has no meaning.
-pub fn write_canonical_payload<D, F: PayloadFamily<D>>(
+pub fn write_canonical_payload<P, F: PayloadFamily<P>>(
     family: F,
     payload: &[u8],
     buffer: &mut [u8],
@@ -116,7 +119,7 @@ pub fn write_canonical_payload<D, F: PayloadFamily<D>>(
 /// May panic where a condition of the caller that is named here does not hold. Where it does
 /// not panic then, the result has no meaning.
 #[must_use]
-pub fn list_error<D, F: PayloadFamily<D>>(family: F, payload: &[u8]) -> Option<usize> {
+pub fn list_error<P, F: PayloadFamily<P>>(family: F, payload: &[u8]) -> Option<usize> {
     family.ask(FindError { payload }, &mut HeaderCount::new(), &mut [])
 }
 
@@ -133,7 +136,7 @@ pub fn list_error<D, F: PayloadFamily<D>>(family: F, payload: &[u8]) -> Option<u
 /// May panic where a condition of the caller that is named here does not hold. Where it does
 /// not panic then, the result has no meaning.
 #[must_use]
-pub fn list_difference<D, F: PayloadFamily<D>>(
+pub fn list_difference<P, F: PayloadFamily<P>>(
     family: F,
     a: &[u8],
     b: &[u8],
@@ -157,6 +160,6 @@ pub fn list_difference<D, F: PayloadFamily<D>>(
 /// May panic where a condition of the caller that is named here does not hold. Where it does
 /// not panic then, the result has no meaning.
 #[must_use]
-pub fn list_unmet<D, F: PayloadFamily<D>>(family: F, have: &[u8], want: &[u8]) -> Option<Unmet> {
+pub fn list_unmet<P, F: PayloadFamily<P>>(family: F, have: &[u8], want: &[u8]) -> Option<Unmet> {
     family.ask(FindUnmet { have, want }, &mut HeaderCount::new(), &mut [])
 }

@@ -64,7 +64,9 @@ macro_rules! of_peered {
     };
 }
 
-impl<P: LinkLayer> PayloadFamily<InfoDataOf<P>> for PeeredFamily {
+impl<P: LinkLayer> PayloadFamily<P> for PeeredFamily {
+    type Data = InfoDataOf<P>;
+
     fn read(self, payload: &[u8], count: &mut HeaderCount) -> Result<InfoDataOf<P>, DecodeError> {
         Ok(of_peered!(self, read(payload, count)))
     }

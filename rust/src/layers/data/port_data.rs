@@ -63,12 +63,10 @@ pub enum InfoPortDataOf<P: LinkLayer> {
 /// The data of a port (`IFLA_INFO_SLAVE_DATA`), with opaque families.
 pub type InfoPortData = InfoPortDataOf<Bytes>;
 
-impl<P: DataLayer> PayloadFamily<InfoPortDataOf<P>> for PortFamily {
-    fn read(
-        self,
-        payload: &[u8],
-        count: &mut HeaderCount,
-    ) -> Result<InfoPortDataOf<P>, DecodeError> {
+impl<P: DataLayer> PayloadFamily<P> for PortFamily {
+    type Data = P::PortData;
+
+    fn read(self, payload: &[u8], count: &mut HeaderCount) -> Result<P::PortData, DecodeError> {
         P::read_port_data(self, payload, count)
     }
 
@@ -78,7 +76,7 @@ impl<P: DataLayer> PayloadFamily<InfoPortDataOf<P>> for PortFamily {
     }
 }
 
-impl<P: DataLayer> InfoPortDataOf<P> {
+impl<P: LinkLayer> InfoPortDataOf<P> {
     /// Parses the payload of `IFLA_INFO_SLAVE_DATA` of a port of this kind.
     ///
     /// The result holds the attributes of the port kind's family, or the bytes if the port kind has
@@ -94,7 +92,7 @@ impl<P: DataLayer> InfoPortDataOf<P> {
         kind: &InfoPortKind,
     ) -> Result<InfoPortDataOf<P>, DecodeError> {
         let mut count = HeaderCount::new();
-        port_family_of(kind.tag()).read(payload, &mut count)
+        P::read_port_data(port_family_of(kind.tag()), payload, &mut count)
     }
 }
 
@@ -113,7 +111,7 @@ impl<P: LinkLayer> InfoPortDataOf<P> {
 
 /// Written as an attribute of type 5 (`IFLA_INFO_SLAVE_DATA`). The payload is the encodings of the
 /// attributes, one after another.
-impl<P: DataLayer> Nla for InfoPortDataOf<P> {
+impl<P: LinkLayer> Nla for InfoPortDataOf<P> {
     #[inline]
     fn value_len(&self) -> usize {
         self.fit_len().unwrap_or(0)
@@ -140,4 +138,4 @@ impl<P: DataLayer> Nla for InfoPortDataOf<P> {
     }
 }
 
-impl<P: DataLayer> ExactEq for InfoPortDataOf<P> {}
+impl<P: LinkLayer> ExactEq for InfoPortDataOf<P> {}

@@ -75,7 +75,9 @@ macro_rules! of_tunnel {
     };
 }
 
-impl<P: LinkLayer> PayloadFamily<InfoDataOf<P>> for TunnelFamily {
+impl<P: LinkLayer> PayloadFamily<P> for TunnelFamily {
+    type Data = InfoDataOf<P>;
+
     fn read(self, payload: &[u8], count: &mut HeaderCount) -> Result<InfoDataOf<P>, DecodeError> {
         Ok(of_tunnel!(self, read(payload, count)))
     }

@@ -6,13 +6,12 @@ use crate::layers::data::DataLayer;
 use crate::layers::link::link_info::LinkInfoOf;
 use crate::layers::link::list::VecLinkInfoOf;
 use crate::layers::nla_frame::Nlas;
-use crate::layers::table::LinkLayer;
 use alloc::vec;
 use alloc::vec::Vec;
 use core::slice;
 
 /// The list of these attributes, in order. The `Vec` is moved, not copied.
-impl<P: LinkLayer> From<Vec<LinkInfoOf<P>>> for VecLinkInfoOf<P> {
+impl<P: DataLayer> From<Vec<LinkInfoOf<P>>> for VecLinkInfoOf<P> {
     fn from(items: Vec<LinkInfoOf<P>>) -> VecLinkInfoOf<P> {
         VecLinkInfoOf(Nlas::new(items))
     }

@@ -3,8 +3,8 @@
 //! Where two lists of link info differ first.
 
 use crate::layers::data::{
-    DataFamily, DataLayer, Difference, InfoDataOf, InfoPortDataOf, PayloadFamily, PortFamily,
-    family_of, list_difference, port_family_of, same_payloads,
+    DataFamily, DataLayer, Difference, PayloadFamily, PortFamily, family_of, list_difference,
+    port_family_of, same_payloads,
 };
 use crate::layers::link::item::same_item;
 use crate::layers::link::list::check_of;
@@ -15,7 +15,7 @@ use crate::layers::table::{PlacedNla, whole_difference};
 
 /// The first difference of two attributes with data of one family: in the data if that is a list,
 /// otherwise of the attributes as a whole.
-fn data_difference<D, F: PayloadFamily<D>>(
+fn data_difference<P, F: PayloadFamily<P>>(
     family: F,
     p: &PlacedNla<'_>,
     q: &PlacedNla<'_>,
@@ -23,11 +23,11 @@ fn data_difference<D, F: PayloadFamily<D>>(
     let (x, y) = (p.nla.value(), q.nla.value());
     match family.listing() {
         Some(_) => {
-            let inside = list_difference::<D, F>(family, x, y)?;
+            let inside = list_difference::<P, F>(family, x, y)?;
             Some(inside.inside(p, q))
         }
         None => {
-            let is_same = same_payloads::<D, F>(family, x, y, &mut HeaderCount::new());
+            let is_same = same_payloads::<P, F>(family, x, y, &mut HeaderCount::new());
             whole_difference(Family::LinkInfo, is_same, p, q)
         }
     }
@@ -40,10 +40,8 @@ fn role_difference<P: DataLayer>(
     q: &PlacedNla<'_>,
 ) -> Option<Difference> {
     match role {
-        Role::Data(tag) => data_difference::<InfoDataOf<P>, DataFamily>(family_of(tag), p, q),
-        Role::PortData(tag) => {
-            data_difference::<InfoPortDataOf<P>, PortFamily>(port_family_of(tag), p, q)
-        }
+        Role::Data(tag) => data_difference::<P, DataFamily>(family_of(tag), p, q),
+        Role::PortData(tag) => data_difference::<P, PortFamily>(port_family_of(tag), p, q),
         _ if same_item::<P>(&p.nla, &q.nla, role, &mut HeaderCount::new()) => None,
         _ => Some(Difference::of_pair(Family::LinkInfo, p, q)),
     }

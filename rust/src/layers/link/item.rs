@@ -4,8 +4,8 @@
 
 use crate::compat::NextMultiple;
 use crate::layers::data::{
-    DataFamily, DataLayer, InfoDataOf, InfoPortDataOf, PayloadFamily, PortFamily, check_payload,
-    family_of, measure_payload, port_family_of, same_payloads, write_canonical_payload,
+    DataFamily, DataLayer, PayloadFamily, PortFamily, check_payload, family_of, measure_payload,
+    port_family_of, same_payloads, write_canonical_payload,
 };
 use crate::layers::link::link_info::LinkInfoOf;
 use crate::layers::link::role::{CurrentKinds, Role, error, name_in};
@@ -31,7 +31,7 @@ pub(crate) fn read_item<P: DataLayer>(
     match role {
         Role::Kind => Ok(LinkInfoOf::Kind(read_kind(nla, kinds_after.kind)?)),
         Role::Data(tag) => {
-            let data = family_of(tag).read(nla.value(), count)?;
+            let data = P::read_data(family_of(tag), nla.value(), count)?;
             Ok(LinkInfoOf::Data(data))
         }
         Role::Xstats => {
@@ -40,7 +40,7 @@ pub(crate) fn read_item<P: DataLayer>(
         }
         Role::PortKind => Ok(LinkInfoOf::PortKind(read_port_kind(nla, kinds_after.port)?)),
         Role::PortData(tag) => {
-            let data = port_family_of(tag).read(nla.value(), count)?;
+            let data = P::read_port_data(port_family_of(tag), nla.value(), count)?;
             Ok(LinkInfoOf::PortData(data))
         }
         Role::Misplaced => Err(error(nla, Cause::Order)),
@@ -78,13 +78,11 @@ pub(crate) fn check_item<P: DataLayer>(
 ) -> Result<(), DecodeError> {
     match role {
         Role::Kind => Ok(()),
-        Role::Data(tag) => {
-            check_payload::<InfoDataOf<P>, DataFamily>(family_of(tag), nla.value(), count)
-        }
+        Role::Data(tag) => check_payload::<P, DataFamily>(family_of(tag), nla.value(), count),
         Role::Xstats => Ok(()),
         Role::PortKind => Ok(()),
         Role::PortData(tag) => {
-            check_payload::<InfoPortDataOf<P>, PortFamily>(port_family_of(tag), nla.value(), count)
+            check_payload::<P, PortFamily>(port_family_of(tag), nla.value(), count)
         }
         Role::Misplaced => Err(error(nla, Cause::Order)),
         Role::Unknown => Ok(()),
@@ -103,24 +101,13 @@ pub(crate) fn same_item<P: DataLayer>(
     match role {
         Role::Kind => same_kind && shape_same(Shape::Name, a.value(), b.value()),
         Role::Data(tag) => {
-            same_kind
-                && same_payloads::<InfoDataOf<P>, DataFamily>(
-                    family_of(tag),
-                    a.value(),
-                    b.value(),
-                    count,
-                )
+            same_kind && same_payloads::<P, DataFamily>(family_of(tag), a.value(), b.value(), count)
         }
         Role::Xstats => same_kind && a.value() == b.value(),
         Role::PortKind => same_kind && shape_same(Shape::Name, a.value(), b.value()),
         Role::PortData(tag) => {
             same_kind
-                && same_payloads::<InfoPortDataOf<P>, PortFamily>(
-                    port_family_of(tag),
-                    a.value(),
-                    b.value(),
-                    count,
-                )
+                && same_payloads::<P, PortFamily>(port_family_of(tag), a.value(), b.value(), count)
         }
         Role::Misplaced => false,
         Role::Unknown => b.raw_kind() == a.raw_kind() && a.value() == b.value(),
@@ -138,12 +125,10 @@ pub(crate) fn measure_item<P: DataLayer>(
     let value = nla.value();
     match role {
         Role::Kind => Ok(shape_canonical_len(Shape::Name, value)),
-        Role::Data(tag) => measure_payload::<InfoDataOf<P>, DataFamily>(family_of(tag), value),
+        Role::Data(tag) => measure_payload::<P, DataFamily>(family_of(tag), value),
         Role::Xstats => Ok(fitting(value.len())),
         Role::PortKind => Ok(shape_canonical_len(Shape::Name, value)),
-        Role::PortData(tag) => {
-            measure_payload::<InfoPortDataOf<P>, PortFamily>(port_family_of(tag), value)
-        }
+        Role::PortData(tag) => measure_payload::<P, PortFamily>(port_family_of(tag), value),
         Role::Misplaced => Err(error(nla, Cause::Order)),
         Role::Unknown => Ok(fitting(value.len())),
     }
@@ -161,20 +146,14 @@ pub(crate) fn write_item<P: DataLayer>(
     let value = nla.value();
     match role {
         Role::Kind => shape_write_attribute(Shape::Name, IFLA_INFO_KIND, value, buffer),
-        Role::Data(tag) => write_payload::<InfoDataOf<P>, DataFamily>(
-            family_of(tag),
-            IFLA_INFO_DATA,
-            value,
-            buffer,
-        ),
+        Role::Data(tag) => {
+            write_payload::<P, DataFamily>(family_of(tag), IFLA_INFO_DATA, value, buffer)
+        }
         Role::Xstats => write_bytes_attribute(IFLA_INFO_XSTATS, value, buffer),
         Role::PortKind => shape_write_attribute(Shape::Name, IFLA_INFO_SLAVE_KIND, value, buffer),
-        Role::PortData(tag) => write_payload::<InfoPortDataOf<P>, PortFamily>(
-            port_family_of(tag),
-            IFLA_INFO_SLAVE_DATA,
-            value,
-            buffer,
-        ),
+        Role::PortData(tag) => {
+            write_payload::<P, PortFamily>(port_family_of(tag), IFLA_INFO_SLAVE_DATA, value, buffer)
+        }
         Role::Misplaced => unreachable!(),
         Role::Unknown => write_bytes_attribute(nla.raw_kind(), value, buffer),
     }
@@ -183,13 +162,13 @@ pub(crate) fn write_item<P: DataLayer>(
 /// Writes the canonical encoding of an attribute with data to the front of the buffer, and returns
 /// its length in bytes. The payload is written first, after room for its header; then the header
 /// and the padding.
-fn write_payload<D, F: PayloadFamily<D>>(
+fn write_payload<P, F: PayloadFamily<P>>(
     family: F,
     kind: u16,
     payload: &[u8],
     buffer: &mut [u8],
 ) -> usize {
-    let len = write_canonical_payload::<D, F>(family, payload, &mut buffer[4..]);
+    let len = write_canonical_payload::<P, F>(family, payload, &mut buffer[4..]);
     write_frame(buffer, kind, len);
     4 + len.next_multiple_of_four()
 }

@@ -12,7 +12,6 @@ use crate::layers::link::walk::LinkInfoWalk;
 use crate::layers::nla_frame::{
     Bytes, DecodeError, ExactEq, HeaderCount, Nlas, ToVecError, next_attribute, nlas_to_vec,
 };
-use crate::layers::table::LinkLayer;
 use alloc::vec::Vec;
 use core::fmt::{self, Debug, Formatter};
 use core::slice;
@@ -93,20 +92,22 @@ fn check_string<P: DataLayer>(bytes: &[u8], count: &mut HeaderCount) -> Result<(
 /// [`emit_nlas`]: crate::layers::nla_frame::emit_nlas
 /// [`as_slice`]: crate::layers::link::VecLinkInfoOf::as_slice
 #[derive(PartialEq, Eq)]
-pub struct VecLinkInfoOf<P: LinkLayer>(pub Nlas<LinkInfoOf<P>>);
+pub struct VecLinkInfoOf<P: DataLayer>(pub Nlas<LinkInfoOf<P>>);
 
-impl<P: LinkLayer + Debug> Debug for VecLinkInfoOf<P>
+impl<P: DataLayer + Debug> Debug for VecLinkInfoOf<P>
 where
-    P::Peer: Debug,
+    P::Data: Debug,
+    P::PortData: Debug,
 {
     fn fmt(&self, f: &mut Formatter<'_>) -> fmt::Result {
         f.debug_tuple("VecLinkInfoOf").field(&self.0).finish()
     }
 }
 
-impl<P: LinkLayer + Clone> Clone for VecLinkInfoOf<P>
+impl<P: DataLayer + Clone> Clone for VecLinkInfoOf<P>
 where
-    P::Peer: Clone,
+    P::Data: Clone,
+    P::PortData: Clone,
 {
     fn clone(&self) -> VecLinkInfoOf<P> {
         VecLinkInfoOf(self.0.clone())
@@ -119,7 +120,7 @@ pub type VecLinkInfo = VecLinkInfoOf<Bytes>;
 
 impl<P: DataLayer> ExactEq for VecLinkInfoOf<P> {}
 
-impl<P: LinkLayer> VecLinkInfoOf<P> {
+impl<P: DataLayer> VecLinkInfoOf<P> {
     /// Returns the `Vec` of the attributes.
     #[must_use]
     pub fn into_vec(self) -> Vec<LinkInfoOf<P>> {

@@ -3,8 +3,7 @@
 //! The first error of a list, with its offsets.
 
 use crate::layers::data::{
-    DataFamily, DataLayer, InfoDataOf, InfoPortDataOf, PayloadFamily, PortFamily, family_of,
-    list_error, port_family_of,
+    DataFamily, DataLayer, PayloadFamily, PortFamily, family_of, list_error, port_family_of,
 };
 use crate::layers::link::item::check_item;
 use crate::layers::link::role::Role;
@@ -69,11 +68,11 @@ impl ExactEq for ErrorIn {}
 /// The offset of the error of rejected data, in bytes from the header of the attribute that holds
 /// the data. It is that of the innermost attribute if the data is a list, otherwise that of the
 /// data's first attribute.
-fn error_in_payload<D, F: PayloadFamily<D>>(family: F, payload: &[u8]) -> usize {
+fn error_in_payload<P, F: PayloadFamily<P>>(family: F, payload: &[u8]) -> usize {
     if family.listing().is_none() {
         return 4;
     }
-    match list_error::<D, F>(family, payload) {
+    match list_error::<P, F>(family, payload) {
         Some(offset) => 4 + offset,
         None => 4,
     }
@@ -82,12 +81,8 @@ fn error_in_payload<D, F: PayloadFamily<D>>(family: F, payload: &[u8]) -> usize 
 /// The offset of the error of a rejected attribute of the list, in bytes from its header.
 fn error_in<P: DataLayer>(nla: &NlaBuffer<'_>, role: Role) -> usize {
     match role {
-        Role::Data(tag) => {
-            error_in_payload::<InfoDataOf<P>, DataFamily>(family_of(tag), nla.value())
-        }
-        Role::PortData(tag) => {
-            error_in_payload::<InfoPortDataOf<P>, PortFamily>(port_family_of(tag), nla.value())
-        }
+        Role::Data(tag) => error_in_payload::<P, DataFamily>(family_of(tag), nla.value()),
+        Role::PortData(tag) => error_in_payload::<P, PortFamily>(port_family_of(tag), nla.value()),
         _ => 0,
     }
 }

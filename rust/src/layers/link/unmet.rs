@@ -3,8 +3,8 @@
 //! Whether a link has all attributes of a request, and which one it lacks.
 
 use crate::layers::data::{
-    DataFamily, DataLayer, InfoDataOf, InfoPortDataOf, PayloadFamily, PortFamily, family_of,
-    list_unmet, port_family_of, same_payloads,
+    DataFamily, DataLayer, PayloadFamily, PortFamily, family_of, list_unmet, port_family_of,
+    same_payloads,
 };
 use crate::layers::link::item::same_item;
 use crate::layers::link::list::check_of;
@@ -104,7 +104,7 @@ fn is_same_kind(role: Role, have: Names<'_>, want: Names<'_>) -> bool {
 
 /// What of data `want` does not find in data `have` of its kind: an attribute, where data is a
 /// list.
-fn data_unmet<D, F: PayloadFamily<D>>(
+fn data_unmet<P, F: PayloadFamily<P>>(
     family: F,
     have: &PlacedNla<'_>,
     want: &PlacedNla<'_>,
@@ -115,11 +115,11 @@ fn data_unmet<D, F: PayloadFamily<D>>(
     }
     match family.listing() {
         Some(_) => {
-            let inside = list_unmet::<D, F>(family, had, wanted)?;
+            let inside = list_unmet::<P, F>(family, had, wanted)?;
             Some(inside.inside(want, have))
         }
         None => {
-            let is_met = same_payloads::<D, F>(family, had, wanted, &mut HeaderCount::new());
+            let is_met = same_payloads::<P, F>(family, had, wanted, &mut HeaderCount::new());
             unmet_as_whole(Family::LinkInfo, is_met, have, want)
         }
     }
@@ -168,10 +168,8 @@ fn role_unmet<P: DataLayer>(
     want: &PlacedNla<'_>,
 ) -> Option<Unmet> {
     match role {
-        Role::Data(tag) => data_unmet::<InfoDataOf<P>, DataFamily>(family_of(tag), have, want),
-        Role::PortData(tag) => {
-            data_unmet::<InfoPortDataOf<P>, PortFamily>(port_family_of(tag), have, want)
-        }
+        Role::Data(tag) => data_unmet::<P, DataFamily>(family_of(tag), have, want),
+        Role::PortData(tag) => data_unmet::<P, PortFamily>(port_family_of(tag), have, want),
         _ => item_unmet::<P>(role, have, want),
     }
 }

@@ -17,7 +17,7 @@ use core::fmt::Debug;
 /// Every [`LinkPeer`] is a layer, whose peers are of that type, and whose families are opaque.
 ///
 /// [`LinkPeer`]: crate::layers::table::LinkPeer
-pub trait LinkLayer {
+pub trait LinkLayer: Eq + Sized {
     /// The peer of a veth, vxcan or netkit link.
     type Peer: LinkPeer;
 

@@ -4,9 +4,9 @@
 
 use super::assertions::{assert_equal, assert_holds, nlas};
 use linkinfo::layers::link::{
-    Cause, DataFamily, DecodeError, DeviceFamily, Family, HeaderCount, InfoData, InfoPortData,
-    InfoVrf, KindTag, LowerFamily, PayloadFamily, PeeredFamily, PortFamily, PortTag, TunnelFamily,
-    check_payload, family_of, port_family_of, same_payloads,
+    Bytes, Cause, DataFamily, DecodeError, DeviceFamily, Family, HeaderCount, InfoData,
+    InfoPortData, InfoVrf, KindTag, LowerFamily, PayloadFamily, PeeredFamily, PortFamily, PortTag,
+    TunnelFamily, check_payload, family_of, port_family_of, same_payloads,
 };
 
 /// Kinds, and the families of their data.
@@ -55,34 +55,37 @@ const OTHER_TABLE: [u8; 8] = [8, 0, 1, 0, 6, 0, 0, 0];
 const SHORT: [u8; 5] = [5, 0, 1, 0, 5];
 
 /// Asserts that the family accepts the payload.
-fn accepts<D, F: PayloadFamily<D>>(family: F, payload: &[u8]) {
+fn accepts<P, F: PayloadFamily<P>>(family: F, payload: &[u8]) {
     assert!(payload.len() < 1000);
     let mut count = HeaderCount::new();
-    let checked = check_payload::<D, F>(family, payload, &mut count);
+    let checked = check_payload::<P, F>(family, payload, &mut count);
     assert!(checked.is_ok());
 }
 
 /// Returns whether two accepted payloads are equivalent in the family, and the number of headers
 /// examined.
-fn are_same<D, F: PayloadFamily<D>>(family: F, a: &[u8], b: &[u8]) -> (bool, usize) {
-    accepts::<D, F>(family, a);
-    accepts::<D, F>(family, b);
+fn are_same<P, F: PayloadFamily<P>>(family: F, a: &[u8], b: &[u8]) -> (bool, usize) {
+    accepts::<P, F>(family, a);
+    accepts::<P, F>(family, b);
     let mut count = HeaderCount::new();
-    let same = same_payloads::<D, F>(family, a, b, &mut count);
+    let same = same_payloads::<P, F>(family, a, b, &mut count);
     (same, count.get())
 }
 
 /// Asserts that the family of vrf parses `TABLE` as the data, that `TABLE` is equivalent to
 /// `MARKED` and to no other, and that a table of one byte is rejected.
-fn has_tables<D: PartialEq, F: PayloadFamily<D>>(family: F, data: D) {
+fn has_tables<P, F: PayloadFamily<P>>(family: F, data: F::Data)
+where
+    F::Data: PartialEq,
+{
     let mut count = HeaderCount::new();
-    let read = PayloadFamily::<D>::read(family, &TABLE, &mut count).expect("data");
+    let read = PayloadFamily::<P>::read(family, &TABLE, &mut count).expect("data");
     assert_holds(&TABLE, read == data);
     assert_equal(&TABLE, &count.get(), &1);
-    let (same, headers) = are_same::<D, F>(family, &TABLE, &MARKED);
+    let (same, headers) = are_same::<P, F>(family, &TABLE, &MARKED);
     assert_holds(&MARKED, same);
     assert_equal(&MARKED, &headers, &2);
-    let (same, _) = are_same::<D, F>(family, &TABLE, &OTHER_TABLE);
+    let (same, _) = are_same::<P, F>(family, &TABLE, &OTHER_TABLE);
     assert_holds(&OTHER_TABLE, !same);
     let error = DecodeError {
         family: Family::Vrf,
@@ -90,7 +93,7 @@ fn has_tables<D: PartialEq, F: PayloadFamily<D>>(family: F, data: D) {
         cause: Cause::Length,
     };
     let mut count = HeaderCount::new();
-    let checked = check_payload::<D, F>(family, &SHORT, &mut count);
+    let checked = check_payload::<P, F>(family, &SHORT, &mut count);
     assert_equal(&SHORT, &checked, &Err(error));
     assert_equal(&SHORT, &count.get(), &1);
 }
@@ -98,7 +101,7 @@ fn has_tables<D: PartialEq, F: PayloadFamily<D>>(family: F, data: D) {
 #[test]
 fn payloads_of_families() {
     let data = InfoData::Vrf(nlas([InfoVrf::TableId(5)]));
-    has_tables(family_of(KindTag::Vrf), data);
+    has_tables::<Bytes, DataFamily>(family_of(KindTag::Vrf), data);
     let data = InfoPortData::VrfPort(nlas([InfoVrf::TableId(5)]));
-    has_tables(port_family_of(PortTag::Vrf), data);
+    has_tables::<Bytes, PortFamily>(port_family_of(PortTag::Vrf), data);
 }

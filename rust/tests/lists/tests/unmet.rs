@@ -4,8 +4,8 @@
 
 use super::assertions::{assert_equal, assert_holds, bytes_of};
 use linkinfo::layers::link::{
-    Family, HeaderCount, InfoData, InfoPortData, KindTag, PayloadFamily, PortTag, Unmet,
-    check_payload, family_of, is_equal, list_unmet, port_family_of,
+    Bytes, Family, HeaderCount, KindTag, PayloadFamily, PortTag, Unmet, check_payload, family_of,
+    is_equal, list_unmet, port_family_of,
 };
 
 /// Data that is there, a request, and what of it is not met: the type, the offset in the request,
@@ -147,17 +147,17 @@ fn unmet(family: Family, at: &Option<(u16, usize, Option<usize>)>) -> Option<Unm
 }
 
 /// What `have` lacks of `want`, two payloads that are accepted as lists of a family.
-fn unmet_of<D, F: PayloadFamily<D>>(family: F, have: &[u8], want: &[u8]) -> Option<Unmet> {
+fn unmet_of<P, F: PayloadFamily<P>>(family: F, have: &[u8], want: &[u8]) -> Option<Unmet> {
     let _name = family.listing().expect("a list");
-    check_payload::<D, F>(family, have, &mut HeaderCount::new()).expect("accepted");
-    check_payload::<D, F>(family, want, &mut HeaderCount::new()).expect("accepted");
-    list_unmet::<D, F>(family, have, want)
+    check_payload::<P, F>(family, have, &mut HeaderCount::new()).expect("accepted");
+    check_payload::<P, F>(family, want, &mut HeaderCount::new()).expect("accepted");
+    list_unmet::<P, F>(family, have, want)
 }
 
 /// Asserts what is not met in a case, of a family.
-fn assert_case<D, F: PayloadFamily<D>>((have, want, at): &Case, family: F, name: Family) {
+fn assert_case<P, F: PayloadFamily<P>>((have, want, at): &Case, family: F, name: Family) {
     let (had, wanted) = (bytes_of(have), bytes_of(want));
-    let found = unmet_of::<D, F>(family, &had, &wanted);
+    let found = unmet_of::<P, F>(family, &had, &wanted);
     let expected = unmet(name, at);
     assert_equal(&(name, want), &found, &expected);
     if let (Some(found), Some(expected)) = (found, expected) {
@@ -166,15 +166,15 @@ fn assert_case<D, F: PayloadFamily<D>>((have, want, at): &Case, family: F, name:
 }
 
 /// Asserts what is not met in each case, of a family.
-fn assert_cases<D, F: PayloadFamily<D>>(cases: &[Case], family: F, name: Family) {
+fn assert_cases<P, F: PayloadFamily<P>>(cases: &[Case], family: F, name: Family) {
     for case in cases {
-        assert_case::<D, F>(case, family, name);
+        assert_case::<P, F>(case, family, name);
     }
 }
 
 /// Asserts what is not met in each case, of the data of a link.
 fn assert_data(cases: &[Case], tag: KindTag, name: Family) {
-    assert_cases::<InfoData, _>(cases, family_of(tag), name);
+    assert_cases::<Bytes, _>(cases, family_of(tag), name);
 }
 
 #[test]
@@ -188,7 +188,7 @@ fn data_is_met() {
 fn port_data_is_met() {
     let family = port_family_of(PortTag::Bridge);
     let name = Family::BridgePort;
-    assert_cases::<InfoPortData, _>(NO_ROWS, family, name);
+    assert_cases::<Bytes, _>(NO_ROWS, family, name);
 }
 
 /// Kinds, and the families whose attributes their data is a list of.
@@ -216,11 +216,11 @@ const PORT_LISTINGS: &[(PortTag, Option<Family>)] = &[
 #[test]
 fn families_of_lists() {
     for (tag, name) in LISTINGS {
-        let found = PayloadFamily::<InfoData>::listing(family_of(*tag));
+        let found = PayloadFamily::<Bytes>::listing(family_of(*tag));
         assert_equal(tag, &found, name);
     }
     for (tag, name) in PORT_LISTINGS {
-        let found = PayloadFamily::<InfoPortData>::listing(port_family_of(*tag));
+        let found = PayloadFamily::<Bytes>::listing(port_family_of(*tag));
         assert_equal(tag, &found, name);
     }
 }

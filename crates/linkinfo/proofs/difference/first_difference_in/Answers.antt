@@ -6,7 +6,6 @@ use Rattle.nla_frame.specs.declared.error.DecodeError.{DecodeError}
 use Rattle.linkinfo_table.specs.declared.last.PlacedNla.{PlacedNla}
 use Rattle.linkinfo_table.proofs.Lasts.{left_at_attribute, left_of}
 use Rattle.linkinfo_table.proofs.Differences.{no_difference}
-use Rattle.linkinfo_data.proofs.DataLawful.{data_lawful}
 use Rattle.linkinfo.specs.Strings.{reading, values_from}
 use Rattle.linkinfo.specs.declared.role.CurrentKinds.{CurrentKinds}
 use Rattle.linkinfo.proofs.Differences.{all_is_left, left_difference, pair_alike, pair_passes}
@@ -79,7 +78,7 @@ loop-nla-preserved g c =
     let difference = c.role_difference-difference in
     let none = no_difference difference.result (sym c.if-is_some.ensures) in
     let alike =
-    pair_alike layer (data_lawful layer g.met.P.DataLayer.is_layer) c.role_of-role.result p q
+    pair_alike layer g.met.P.DataLayer.lawful c.role_of-role.result p q
     difference.result types pair.first
     (pair.second types) difference.ensures none in
     let kinds =

@@ -4,7 +4,7 @@ use Rattle.nla_frame.specs.declared.error.DecodeError.{DecodeError}
 use Rattle.linkinfo_numbers.specs.Kind.{kind_of_name, tag_of_name}
 use Rattle.linkinfo_numbers.specs.PortKind.{port_kind_of_name, port_tag_of_name}
 use Rattle.linkinfo_table.specs.Calls.{Reads}
-use Rattle.linkinfo_table.specs.Layers.{Families, Types}
+use Rattle.linkinfo_data.specs.DataFamilies.{DataFamilies, DataTypes}
 use Rattle.linkinfo.specs.Layered.{LinkOf}
 use Rattle.linkinfo.specs.declared.link_info.LinkInfoOf.TheVariants as info
 use Rattle.linkinfo.specs.declared.role.CurrentKinds.{CurrentKinds}
@@ -16,7 +16,7 @@ use Rattle.linkinfo.proofs.Naming.{made_ok, named}
 use Rattle.linkinfo.proofs.item.read_item.Goals as goal
 
 -- an attribute with the name of a kind or of a port kind: `own` is the role of such attributes
-named_read : {L : Types} {K : Type 0} (layer : Families L) (of_name : List ℕ → K)
+named_read : {L : DataTypes} {K : Type 0} (layer : DataFamilies L) (of_name : List ℕ → K)
     (label : K → LinkOf L)
     (own r : Role) (a : Attribute) → r ≡ own →
     item_meaning layer own a ≡ named (λ name. label (of_name name)) a →

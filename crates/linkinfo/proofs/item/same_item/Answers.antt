@@ -8,8 +8,7 @@ use Rattle.std.proofs.lemmas.Bool.Decides.{nat_tests}
 use Rattle.linkinfo_numbers.specs.Kind.{kind_of_name}
 use Rattle.linkinfo_numbers.specs.PortKind.{port_kind_of_name}
 use Rattle.linkinfo_table.specs.Rows.{row_alike, row_headers, row_meaning}
-use Rattle.linkinfo_data.specs.Data.{data_of}
-use Rattle.linkinfo_table.specs.Layers.{Families, Types}
+use Rattle.linkinfo_data.specs.DataFamilies.{DataFamilies, DataTypes}
 use Rattle.linkinfo_data.specs.Payloads.{Payload}
 use Rattle.linkinfo.specs.declared.link_info.LinkInfoOf.TheVariants as info
 use Rattle.linkinfo.specs.declared.role.Role.{Role}
@@ -18,8 +17,8 @@ use Rattle.linkinfo.proofs.Naming.{accepted_name}
 use Rattle.linkinfo.proofs.item.same_item.Goals as goal
 
 -- what holds by the role that was found holds by the role that was given
-module _ {L : Types} (layer : Families L) (r s : Role) (is : r ≡ s) (a b : Attribute) (x : Bool)
-  where
+module _ {L : DataTypes} (layer : DataFamilies L) (r s : Role) (is : r ≡ s) (a b : Attribute)
+    (x : Bool) where
     alike_by_role : x ≡ row_alike (link_row layer s) a b → x ≡ row_alike (link_row layer r) a b
     alike_by_role = subst (λ (t : Role). x ≡ row_alike (link_row layer t) a b) (sym is)
 
@@ -92,12 +91,12 @@ returns-then-same_kind-2 g c =
           alike_by_role g.P.DataLayer.families _ _ c.in-Data.is c.args.a.now c.args.b.now _
           (alike_of c.args.a.now c.args.b.now _ _ _ _ c.kind.ensures c.kind-2.ensures
           c.if-same_kind-2.true
-          (payloads_alike (data_of g.P.DataLayer.families) _ _ c.family_of.ensures _ _ _ _ one other
+          (payloads_alike g.P.DataLayer.families.data_of _ _ c.family_of.ensures _ _ _ _ one other
           _
           compared.same));
       counted =
           counted_by_role g.P.DataLayer.families _ _ c.in-Data.is c.args.a.now c.args.b.now _ _ _
-          (payloads_counted (data_of g.P.DataLayer.families) _ _ c.family_of.ensures _ _ _ _ one
+          (payloads_counted g.P.DataLayer.families.data_of _ _ c.family_of.ensures _ _ _ _ one
           other _ _ _
           compared.counted);
       rises = compared.rises;

@@ -11,17 +11,17 @@ use Rattle.linkinfo.specs.declared.role.Role.{Role}
 use Rattle.linkinfo.specs.Items.{link_other, link_row, written_attribute}
 use Rattle.linkinfo.proofs.Naming.{accepted_name}
 use Rattle.linkinfo.proofs.item.write_item.Goals as goal
-use Rattle.linkinfo_data.specs.Data.{data_of, family_of}
+use Rattle.linkinfo_data.specs.Data.{family_of}
 use Rattle.linkinfo_data.specs.declared.data.DataFamily.{DataFamily}
-use Rattle.linkinfo_table.specs.Layers.{Families, Types}
+use Rattle.linkinfo_data.specs.DataFamilies.{DataFamilies, DataTypes}
 use Rattle.linkinfo_numbers.specs.declared.tags.KindTag.{KindTag}
 use Rattle.linkinfo.specs.declared.role.Role.TheVariants as role
 
 -- what holds of the attribute that is written holds of what the family makes of the payload
-data_written : {L : Types} (layer : Families L) (r : Role) (tag : KindTag) (f : DataFamily)
+data_written : {L : DataTypes} (layer : DataFamilies L) (r : Role) (tag : KindTag) (f : DataFamily)
     (a : Attribute) (p : List ℕ) → r ≡ role.Data tag → f ≡ family_of tag → p ≡ a.value →
     (Holds : Attribute → Type 0) → Holds (written_attribute layer r a) →
-    Holds (record { kind = 2; value = (data_of layer f).canonical p })
+    Holds (record { kind = 2; value = (layer.data_of f).canonical p })
 data_written layer r tag f a p is found value Holds h = rw (found, value) (rw is at h)
 
 pub shape_write_attribute-requires-clause-accepted :

@@ -2,4 +2,4 @@ use Rattle.linkinfo_data.proofs.DataNamed.{data_named}
 use Rattle.linkinfo_data.proofs.laws.errors_named.Goals as goal
 
 pub returns : goal.returns
-returns g c = data_named g.P.DataLayer.families g.met.P.DataLayer.is_layer
+returns g c = data_named _ c.lawful.ensures

@@ -6,7 +6,7 @@ use Rattle.linkinfo.specs.Layered.{LinkOf}
 use Rattle.linkinfo.proofs.list.VecLinkInfoOf.parse_counted.Goals as goal
 use Rattle.linkinfo.specs.Strings.{headers_of_string, reading, reading_needs_memory}
 
-abbrev read : {L : Types} → List (LinkOf L) → Result (List (LinkOf L)) DecodeError
+abbrev read : {L : DataTypes} → List (LinkOf L) → Result (List (LinkOf L)) DecodeError
 read items = Ok items
 
 pub returns-in-Ok-clause-answer : goal.returns-in-Ok-clause-answer
