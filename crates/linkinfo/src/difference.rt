@@ -59,9 +59,7 @@ fn role_difference<P: DataLayer>(
 {
     match role {
         Role::Data(tag) => data_difference::<P, DataFamily>(family_of(tag), p, q),
-        Role::PortData(tag) => {
-            data_difference::<P, PortFamily>(port_family_of(tag), p, q)
-        }
+        Role::PortData(tag) => { data_difference::<P, PortFamily>(port_family_of(tag), p, q) }
         _ if same_item::<P>(&p.nla, &q.nla, role, &mut HeaderCount::new()) => None,
         _ => Some(Difference::of_pair(Family::LinkInfo, p, q)),
     }

@@ -143,11 +143,7 @@ pub(crate) fn check_item<P: DataLayer>(
 {
     match role {
         Role::Kind => Ok(()),
-        Role::Data(tag) => check_payload::<P, DataFamily>(
-            family_of(tag),
-            nla.value(),
-            count,
-        ),
+        Role::Data(tag) => check_payload::<P, DataFamily>(family_of(tag), nla.value(), count),
         Role::Xstats => Ok(()),
         Role::PortKind => Ok(()),
         Role::PortData(tag) => check_payload::<P, PortFamily>(
@@ -180,24 +176,13 @@ pub(crate) fn same_item<P: DataLayer>(
     match role {
         Role::Kind => same_kind && shape_same(Shape::Name, a.value(), b.value()),
         Role::Data(tag) => {
-            same_kind
-                && same_payloads::<P, DataFamily>(
-                    family_of(tag),
-                    a.value(),
-                    b.value(),
-                    count,
-                )
+            same_kind && same_payloads::<P, DataFamily>(family_of(tag), a.value(), b.value(), count)
         }
         Role::Xstats => same_kind && a.value() == b.value(),
         Role::PortKind => same_kind && shape_same(Shape::Name, a.value(), b.value()),
         Role::PortData(tag) => {
             same_kind
-                && same_payloads::<P, PortFamily>(
-                    port_family_of(tag),
-                    a.value(),
-                    b.value(),
-                    count,
-                )
+                && same_payloads::<P, PortFamily>(port_family_of(tag), a.value(), b.value(), count)
         }
         Role::Misplaced => false,
         Role::Unknown => b.raw_kind() == a.raw_kind() && a.value() == b.value(),
@@ -223,9 +208,7 @@ pub(crate) fn measure_item<P: DataLayer>(
         Role::Data(tag) => measure_payload::<P, DataFamily>(family_of(tag), value),
         Role::Xstats => Ok(fitting(value.len())),
         Role::PortKind => Ok(shape_canonical_len(Shape::Name, value)),
-        Role::PortData(tag) => {
-            measure_payload::<P, PortFamily>(port_family_of(tag), value)
-        }
+        Role::PortData(tag) => { measure_payload::<P, PortFamily>(port_family_of(tag), value) }
         Role::Misplaced => Err(error(nla, Cause::Order)),
         Role::Unknown => Ok(fitting(value.len())),
     }
@@ -247,22 +230,12 @@ pub(crate) fn write_item<P: DataLayer>(nla: &NlaBuffer<'_>, role: Role, buffer: 
     match role {
         Role::Kind => shape_write_attribute(Shape::Name, IFLA_INFO_KIND, value, buffer),
         Role::Data(tag) => {
-            write_payload::<P, DataFamily>(
-                family_of(tag),
-                IFLA_INFO_DATA,
-                value,
-                buffer,
-            )
+            write_payload::<P, DataFamily>(family_of(tag), IFLA_INFO_DATA, value, buffer)
         }
         Role::Xstats => write_bytes_attribute(IFLA_INFO_XSTATS, value, buffer),
         Role::PortKind => shape_write_attribute(Shape::Name, IFLA_INFO_SLAVE_KIND, value, buffer),
         Role::PortData(tag) => {
-            write_payload::<P, PortFamily>(
-                port_family_of(tag),
-                IFLA_INFO_SLAVE_DATA,
-                value,
-                buffer,
-            )
+            write_payload::<P, PortFamily>(port_family_of(tag), IFLA_INFO_SLAVE_DATA, value, buffer)
         }
         Role::Misplaced => unreachable!(),
         Role::Unknown => write_bytes_attribute(nla.raw_kind(), value, buffer),

@@ -116,9 +116,7 @@ fn error_in<P: DataLayer>(nla: &NlaBuffer<'_>, role: Role) -> usize
     ensures within { result ≤ 4 + length nla.now.value }
 {
     match role {
-        Role::Data(tag) => {
-            error_in_payload::<P, DataFamily>(family_of(tag), nla.value())
-        }
+        Role::Data(tag) => { error_in_payload::<P, DataFamily>(family_of(tag), nla.value()) }
         Role::PortData(tag) => {
             error_in_payload::<P, PortFamily>(port_family_of(tag), nla.value())
         }

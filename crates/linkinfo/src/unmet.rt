@@ -224,9 +224,7 @@ fn role_unmet<P: DataLayer>(role: Role, have: &PlacedNla<'_>, want: &PlacedNla<'
 {
     match role {
         Role::Data(tag) => data_unmet::<P, DataFamily>(family_of(tag), have, want),
-        Role::PortData(tag) => {
-            data_unmet::<P, PortFamily>(port_family_of(tag), have, want)
-        }
+        Role::PortData(tag) => { data_unmet::<P, PortFamily>(port_family_of(tag), have, want) }
         _ => item_unmet::<P>(role, have, want),
     }
 }

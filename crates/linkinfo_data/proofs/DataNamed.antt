@@ -7,24 +7,24 @@ use Rattle.linkinfo_table.specs.TableFamily.{first_named, list_named}
 use Rattle.linkinfo_peers.specs.Veth.{veth_lawful}
 use Rattle.linkinfo_peers.specs.Vxcan.{vxcan_lawful}
 use Rattle.linkinfo_peers.specs.PeerMembers.{netkit_members, veth_members, vxcan_members}
-use Rattle.linkinfo_data.proofs.Lawful.{ip_tunnel_names, ip_vlan_names, mac_vlan_names}
-use Rattle.linkinfo_data.proofs.Lawful.{mac_vtap_names, opaque_names}
+use Rattle.linkinfo_data.specs.FamiliesLawful.{ip_tunnel_names, ip_vlan_names, mac_vlan_names}
+use Rattle.linkinfo_data.specs.FamiliesLawful.{mac_vtap_names, opaque_names}
 -- Begin: written by tables/generate from tables/kinds (imports).
-use Rattle.linkinfo_data.proofs.Lawful.{vrf_names}
-use Rattle.linkinfo_data.proofs.Lawful.{ipoib_names}
-use Rattle.linkinfo_data.proofs.Lawful.{xfrm_names}
-use Rattle.linkinfo_data.proofs.Lawful.{mac_sec_names}
-use Rattle.linkinfo_data.proofs.Lawful.{rm_net_names}
-use Rattle.linkinfo_data.proofs.Lawful.{vxlan_names}
-use Rattle.linkinfo_data.proofs.Lawful.{gre_names}
-use Rattle.linkinfo_data.proofs.Lawful.{gre6_names}
-use Rattle.linkinfo_data.proofs.Lawful.{vti_names}
-use Rattle.linkinfo_data.proofs.Lawful.{gtp_names}
-use Rattle.linkinfo_data.proofs.Lawful.{geneve_names}
-use Rattle.linkinfo_data.proofs.Lawful.{amt_names}
-use Rattle.linkinfo_data.proofs.Lawful.{bare_udp_names}
-use Rattle.linkinfo_data.proofs.Lawful.{bat_adv_names}
-use Rattle.linkinfo_data.proofs.Lawful.{wwan_names}
+use Rattle.linkinfo_data.specs.FamiliesLawful.{vrf_names}
+use Rattle.linkinfo_data.specs.FamiliesLawful.{ipoib_names}
+use Rattle.linkinfo_data.specs.FamiliesLawful.{xfrm_names}
+use Rattle.linkinfo_data.specs.FamiliesLawful.{mac_sec_names}
+use Rattle.linkinfo_data.specs.FamiliesLawful.{rm_net_names}
+use Rattle.linkinfo_data.specs.FamiliesLawful.{vxlan_names}
+use Rattle.linkinfo_data.specs.FamiliesLawful.{gre_names}
+use Rattle.linkinfo_data.specs.FamiliesLawful.{gre6_names}
+use Rattle.linkinfo_data.specs.FamiliesLawful.{vti_names}
+use Rattle.linkinfo_data.specs.FamiliesLawful.{gtp_names}
+use Rattle.linkinfo_data.specs.FamiliesLawful.{geneve_names}
+use Rattle.linkinfo_data.specs.FamiliesLawful.{amt_names}
+use Rattle.linkinfo_data.specs.FamiliesLawful.{bare_udp_names}
+use Rattle.linkinfo_data.specs.FamiliesLawful.{bat_adv_names}
+use Rattle.linkinfo_data.specs.FamiliesLawful.{wwan_names}
 -- End: written by tables/generate.
 use Rattle.linkinfo_table.specs.Layers.{Families, IsLayer, Types, names_of}
 use Rattle.linkinfo_data.specs.Layered.{types_of}

@@ -230,5 +230,5 @@ one_stated m variant conditions same d =
 
 pub record AreStated {t : DataTypes} (layer : DataFamilies t) (well : DataConditions t) : Type 0
   where
-  pub link : (f : DataFamily) → IsStated (layer.data_of f) (well.link f)
-  pub port : (f : PortFamily) → IsStated (layer.port_data_of f) (well.port f)
+    pub link : (f : DataFamily) → IsStated (layer.data_of f) (well.link f)
+    pub port : (f : PortFamily) → IsStated (layer.port_data_of f) (well.port f)

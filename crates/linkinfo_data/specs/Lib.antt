@@ -3,8 +3,10 @@ pub mod BytesLayer
 pub mod Conditions
 pub mod Data
 pub mod DataFamilies
+pub mod DataLawful
 pub mod DeviceData
 pub mod Encoding
+pub mod FamiliesLawful
 pub mod InfoData
 pub mod Known
 pub mod Lawful

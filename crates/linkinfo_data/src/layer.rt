@@ -142,7 +142,7 @@ impl<L: LinkLayer> DataLayer for L {
     ghost use Rattle.linkinfo_data.specs.Data.{data_known};
     ghost use Rattle.linkinfo_data.specs.DataFamilies.{data_families};
     ghost use Rattle.linkinfo_data.specs.PortData.{port_known};
-    ghost use Rattle.linkinfo_data.proofs.DataLawful.{data_lawful};
+    ghost use Rattle.linkinfo_data.specs.DataLawful.{data_lawful};
 
     type Data = InfoDataOf<L>;
 
@@ -199,18 +199,10 @@ impl<L: LinkLayer> DataLayer for L {
         buffer: &mut [u8],
     ) -> Q::Answer {
         match family {
-            DataFamily::Lower(family) => PayloadFamily::<L>::ask(
-                family, question, count, buffer,
-            ),
-            DataFamily::Device(family) => PayloadFamily::<L>::ask(
-                family, question, count, buffer,
-            ),
-            DataFamily::Tunnel(family) => PayloadFamily::<L>::ask(
-                family, question, count, buffer,
-            ),
-            DataFamily::Peered(family) => PayloadFamily::<L>::ask(
-                family, question, count, buffer,
-            ),
+            DataFamily::Lower(family) => PayloadFamily::<L>::ask(family, question, count, buffer),
+            DataFamily::Device(family) => PayloadFamily::<L>::ask(family, question, count, buffer),
+            DataFamily::Tunnel(family) => PayloadFamily::<L>::ask(family, question, count, buffer),
+            DataFamily::Peered(family) => PayloadFamily::<L>::ask(family, question, count, buffer),
             DataFamily::Raw => question.of_bytes(count, buffer),
         }
     }

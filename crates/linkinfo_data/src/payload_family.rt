@@ -165,11 +165,7 @@ pub fn list_error<P, F: PayloadFamily<P>>(family: F, payload: &[u8]) -> Option<u
 /// then the first pair in these. Offsets are in bytes from the beginning of each payload. Each
 /// header is examined at most twice. Does not allocate. Requires that both payloads are accepted,
 /// and that payloads of this family are lists (`listing`).
-pub fn list_difference<P, F: PayloadFamily<P>>(
-    family: F,
-    a: &[u8],
-    b: &[u8],
-) -> Option<Difference>
+pub fn list_difference<P, F: PayloadFamily<P>>(family: F, a: &[u8], b: &[u8]) -> Option<Difference>
     requires listed { IsSome (family_in (F.data_of family).contents) }
     requires first { IsOk ((F.data_of family).means a.now) }
     requires second { IsOk ((F.data_of family).means b.now) }
@@ -189,11 +185,7 @@ pub fn list_difference<P, F: PayloadFamily<P>>(
 /// attribute is met by one of its type, in any order. A list of the family itself is met as a
 /// whole. Offsets count from the beginning of each payload. Does not allocate. Requires that both
 /// payloads are accepted, and that payloads of this family are lists (`listing`).
-pub fn list_unmet<P, F: PayloadFamily<P>>(
-    family: F,
-    have: &[u8],
-    want: &[u8],
-) -> Option<Unmet>
+pub fn list_unmet<P, F: PayloadFamily<P>>(family: F, have: &[u8], want: &[u8]) -> Option<Unmet>
     requires listed { IsSome (family_in (F.data_of family).contents) }
     requires have { IsOk ((F.data_of family).means have.now) }
     requires want { IsOk ((F.data_of family).means want.now) }

@@ -100,7 +100,7 @@ pub fn sets()
     ensures can { ⟦<InfoCan as LinkFamily>⟧.IS_SET ≡ false }
     ensures vlan_qos_mapping { ⟦<VlanQosMapping as LinkFamily>⟧.IS_SET ≡ true }
     ensures vlan { ⟦<InfoVlan as LinkFamily>⟧.IS_SET ≡ false }
-    // End: written by tables/generate.
+// End: written by tables/generate.
 {}
 
 /// What an attribute holds whose row has a list of another family: the list that its payload is, or

@@ -83,12 +83,8 @@ fn are_same<P, F: PayloadFamily<P>>(
 
 /// Asserts that the family of vrf parses `TABLE` as the data, that `TABLE` is equivalent to
 /// `MARKED` and to no other, and that a table of one byte is rejected.
-fn has_tables<P, F: PayloadFamily<P>>(
-    rt: &impl Abort,
-    alloc: Global,
-    family: F,
-    data: F::Data,
-) where
+fn has_tables<P, F: PayloadFamily<P>>(rt: &impl Abort, alloc: Global, family: F, data: F::Data)
+where
     F::Data: PartialEq,
 {
     let mut count = HeaderCount::new();

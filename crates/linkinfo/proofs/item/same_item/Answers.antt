@@ -19,16 +19,16 @@ use Rattle.linkinfo.proofs.item.same_item.Goals as goal
 -- what holds by the role that was found holds by the role that was given
 module _ {L : DataTypes} (layer : DataFamilies L) (r s : Role) (is : r ≡ s) (a b : Attribute)
     (x : Bool) where
-    alike_by_role : x ≡ row_alike (link_row layer s) a b → x ≡ row_alike (link_row layer r) a b
-    alike_by_role = subst (λ (t : Role). x ≡ row_alike (link_row layer t) a b) (sym is)
+  alike_by_role : x ≡ row_alike (link_row layer s) a b → x ≡ row_alike (link_row layer r) a b
+  alike_by_role = subst (λ (t : Role). x ≡ row_alike (link_row layer t) a b) (sym is)
 
-    counted_by_role : (n o : ℕ) →
-        OnTrue x (n ≡ o + (row_headers (link_row layer s) a + row_headers (link_row layer s) b)) →
-        OnTrue x (n ≡ o + (row_headers (link_row layer r) a + row_headers (link_row layer r) b))
-    counted_by_role n o =
-        subst (λ (t : Role).
-        OnTrue x (n ≡ o + (row_headers (link_row layer t) a + row_headers (link_row layer t) b)))
-        (sym is)
+  counted_by_role : (n o : ℕ) →
+      OnTrue x (n ≡ o + (row_headers (link_row layer s) a + row_headers (link_row layer s) b)) →
+      OnTrue x (n ≡ o + (row_headers (link_row layer r) a + row_headers (link_row layer r) b))
+  counted_by_role n o =
+      subst (λ (t : Role).
+      OnTrue x (n ≡ o + (row_headers (link_row layer t) a + row_headers (link_row layer t) b)))
+      (sym is)
 
 -- attributes of one type are equivalent if their payloads are
 alike_of : (a b : Attribute) (k n : ℕ) (x y : Bool) → k ≡ masked b.kind → n ≡ masked a.kind →

@@ -6,8 +6,8 @@ use Rattle.linkinfo_table.specs.Layers.{Types}
 use Rattle.linkinfo_data.specs.Asking.{Facts, facts_of}
 use Rattle.linkinfo_data.specs.TunnelData.{tunnels_data_of}
 use Rattle.linkinfo_data.specs.declared.tunnels.TunnelFamily.{TunnelFamily}
-use Rattle.linkinfo_data.proofs.tunnels.TunnelFamilyPayloadFamilyInfoDataOf.ask.Given.{Over}
-use Rattle.linkinfo_data.proofs.tunnels.TunnelFamilyPayloadFamilyInfoDataOf.ask.Goals as goal
+use Rattle.linkinfo_data.proofs.tunnels.TunnelFamilyPayloadFamily.ask.Given.{Over}
+use Rattle.linkinfo_data.proofs.tunnels.TunnelFamilyPayloadFamily.ask.Goals as goal
 
 abbrev types : Over → Types
 types g = record {

@@ -9,8 +9,8 @@ use Rattle.linkinfo_table.specs.declared.family.LinkFamily.{Ghosts}
 use Rattle.linkinfo_data.specs.Asking.{Facts, facts_of}
 use Rattle.linkinfo_data.specs.PeerData.{peers_data_of}
 use Rattle.linkinfo_data.specs.declared.peers.PeeredFamily.{PeeredFamily}
-use Rattle.linkinfo_data.proofs.peers.PeeredFamilyPayloadFamilyInfoDataOf.ask.Given.{Over}
-use Rattle.linkinfo_data.proofs.peers.PeeredFamilyPayloadFamilyInfoDataOf.ask.Goals as goal
+use Rattle.linkinfo_data.proofs.peers.PeeredFamilyPayloadFamily.ask.Given.{Over}
+use Rattle.linkinfo_data.proofs.peers.PeeredFamilyPayloadFamily.ask.Goals as goal
 
 abbrev types : Over → Types
 types g = record {

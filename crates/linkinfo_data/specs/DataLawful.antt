@@ -8,23 +8,23 @@ use Rattle.linkinfo_peers.specs.Veth.{veth_lawful}
 use Rattle.linkinfo_peers.specs.Vxcan.{vxcan_lawful}
 use Rattle.linkinfo_peers.specs.PeerRows.{peer_contained, peer_contents}
 use Rattle.linkinfo_peers.specs.PeerMembers.{netkit_members, veth_members, vxcan_members}
-use Rattle.linkinfo_data.proofs.Lawful.{ip_tunnel_is, ip_vlan_is, opaque_is}
+use Rattle.linkinfo_data.specs.FamiliesLawful.{ip_tunnel_is, ip_vlan_is, opaque_is}
 -- Begin: written by tables/generate from tables/kinds (imports).
-use Rattle.linkinfo_data.proofs.Lawful.{vrf_is}
-use Rattle.linkinfo_data.proofs.Lawful.{ipoib_is}
-use Rattle.linkinfo_data.proofs.Lawful.{xfrm_is}
-use Rattle.linkinfo_data.proofs.Lawful.{mac_sec_is}
-use Rattle.linkinfo_data.proofs.Lawful.{rm_net_is}
-use Rattle.linkinfo_data.proofs.Lawful.{vxlan_is}
-use Rattle.linkinfo_data.proofs.Lawful.{gre_is}
-use Rattle.linkinfo_data.proofs.Lawful.{gre6_is}
-use Rattle.linkinfo_data.proofs.Lawful.{vti_is}
-use Rattle.linkinfo_data.proofs.Lawful.{gtp_is}
-use Rattle.linkinfo_data.proofs.Lawful.{geneve_is}
-use Rattle.linkinfo_data.proofs.Lawful.{amt_is}
-use Rattle.linkinfo_data.proofs.Lawful.{bare_udp_is}
-use Rattle.linkinfo_data.proofs.Lawful.{bat_adv_is}
-use Rattle.linkinfo_data.proofs.Lawful.{wwan_is}
+use Rattle.linkinfo_data.specs.FamiliesLawful.{vrf_is}
+use Rattle.linkinfo_data.specs.FamiliesLawful.{ipoib_is}
+use Rattle.linkinfo_data.specs.FamiliesLawful.{xfrm_is}
+use Rattle.linkinfo_data.specs.FamiliesLawful.{mac_sec_is}
+use Rattle.linkinfo_data.specs.FamiliesLawful.{rm_net_is}
+use Rattle.linkinfo_data.specs.FamiliesLawful.{vxlan_is}
+use Rattle.linkinfo_data.specs.FamiliesLawful.{gre_is}
+use Rattle.linkinfo_data.specs.FamiliesLawful.{gre6_is}
+use Rattle.linkinfo_data.specs.FamiliesLawful.{vti_is}
+use Rattle.linkinfo_data.specs.FamiliesLawful.{gtp_is}
+use Rattle.linkinfo_data.specs.FamiliesLawful.{geneve_is}
+use Rattle.linkinfo_data.specs.FamiliesLawful.{amt_is}
+use Rattle.linkinfo_data.specs.FamiliesLawful.{bare_udp_is}
+use Rattle.linkinfo_data.specs.FamiliesLawful.{bat_adv_is}
+use Rattle.linkinfo_data.specs.FamiliesLawful.{wwan_is}
 -- End: written by tables/generate.
 use Rattle.linkinfo_table.specs.Layers.{Families, IsLayer, Types}
 use Rattle.linkinfo_data.specs.Layered.{types_of}
