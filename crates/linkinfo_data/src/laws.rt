@@ -46,9 +46,9 @@ pub fn well_formed<P: LinkPeer>()
 
 /// The same of any layer: attributes of a family that the layer supplies meet the condition of that
 /// family.
-pub fn well_formed_by<P: LinkLayer>()
-    ensures { let layer = ⟦<P as LayerFamilies>⟧.families in
-        AreStated (data_families layer) (conditions_of layer.peer.well (own_conditions layer)) }
+pub fn well_formed_by<P: LayerFamilies>()
+    ensures { AreStated (data_families P.families)
+        (conditions_of P.families.peer.well (own_conditions P.families)) }
 {}
 
 /// Laws of `list_difference` and `list_error`, for families whose data or port data is a list. Two
