@@ -5,7 +5,6 @@
 
 // Begin: written by tables/generate from tables/families (modules).
 mod bond;
-mod can;
 mod qos;
 mod vlan;
 // End: written by tables/generate.
@@ -14,7 +13,6 @@ mod layer;
 
 // Begin: written by tables/generate from tables/families (types).
 pub use bond::InfoBond;
-pub use can::InfoCan;
 pub use qos::VlanQosMapping;
 pub use vlan::InfoVlan;
 // End: written by tables/generate.
