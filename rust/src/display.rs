@@ -88,7 +88,8 @@ impl ErrorIn {
     /// Returns the error with its offsets, by validating the list that has it once more. `first`
     /// and `second` are the two lists that were compared, in that order.
     ///
-    /// Peers are kept as bytes; [`ErrorIn::at_of`] takes other types of peer. `None` if the list is
+    /// Peers are kept as bytes, and families are opaque; [`ErrorIn::at_of`] takes other layers: for
+    /// an error of [`typed`](crate::typed) it is `at_of::<Typed<Bytes>>`. `None` if the list is
     /// accepted: it is not the one that was rejected. Does not allocate.
     ///
     /// ```
@@ -106,7 +107,7 @@ impl ErrorIn {
     }
 
     /// Returns the error with its offsets, as [`ErrorIn::at`] does, for two lists that were
-    /// compared with peers of type `P`.
+    /// compared over the layer `P`.
     #[must_use]
     pub fn at_of<P: DataLayer>(self, first: &[u8], second: &[u8]) -> Option<ErrorAt> {
         let rejected = match self {

@@ -61,8 +61,8 @@
 //!   [`LinkInfoWalk`] borrows them. [`nlas_fit_len`] and [`emit_nlas`] write into a buffer.
 //! - **Validating and comparing encodings**: [`check`], [`check_at`], [`same`], [`same_at`],
 //!   [`first_unmet`] with [`Unmet`], [`first_difference`] with [`Difference`], [`canon`] and
-//!   [`canon_into`]. Those that end in `_of` take another type of peer, and those with `counted` a
-//!   [`HeaderCount`] for the headers examined.
+//!   [`canon_into`]. Those that end in `_of` take another layer, such as another type of peer, and
+//!   those with `counted` a [`HeaderCount`] for the headers examined.
 //! - **Errors**: [`DecodeError`] has a [`Family`], a type and a [`Cause`]. [`ErrorAt`] adds the
 //!   offset, and is displayed as a sentence, as [`Explanation`] is. [`ErrorIn`] says which of two
 //!   lists has the error; [`ErrorIn::at`] adds the offset. [`ToVecError`], [`CanonError`] and
@@ -71,6 +71,9 @@
 //! - **Families of attributes**: one enum for the data of each kind or of several, as
 //!   [`InfoVxlan`], [`InfoGre`] or [`InfoMacSec`]. Those of bond, bridge, vlan and others are kept
 //!   verbatim ([`InfoBond`], [`InfoBridge`], [`InfoVlan`]).
+//! - **Typed vlan attributes**: the module [`typed`] has lists, data and calls by the same names,
+//!   over a layer in which these attributes have types ([`typed::InfoVlan`]). Import the module, or
+//!   some names of it: its names are those of the root. [`LinkLayer`] is for a layer of your own.
 //! - **Peers** of veth, vxcan and netkit links: a type that implements [`LinkPeer`], in
 //!   [`VecLinkInfoOf`], [`InfoDataOf`], [`InfoVethOf`] and so on. [`VecLinkInfo`] keeps them as
 //!   [`Bytes`].

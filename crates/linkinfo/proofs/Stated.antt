@@ -161,7 +161,7 @@ module _ {L : DataTypes} (layer : DataFamilies L) (well : DataConditions L)
 
   under_stated : (t : CurrentKinds) (xs : List (LinkOf L)) →
       well_under (link_well layer) kinds_after_value t xs ↔
-      well_under (item_conditions layer.peer.well well) kinds_after_value t xs
+      well_under (item_conditions well) kinds_after_value t xs
   under_stated t [] = (λ h. tt, λ h. tt)
   under_stated t (x ∷ xs) = (
     λ h. ((item_stated t x).0 h.0, (under_stated (kinds_after_value t x) xs).0 h.1),

@@ -69,7 +69,7 @@ impl ExactEq for CanonError {
     ghost exact = { derived_decides enum _ (one_field error_exact, (no_field, tt)) };
 }
 
-/// Returns the canonical encoding of the list that `bytes` encodes, with peers of type `P`.
+/// Returns the canonical encoding of the list that `bytes` encodes, over the layer `P`.
 ///
 /// It is the result of `VecLinkInfoOf::parse` and `to_vec`, without building values. The error is
 /// that of `parse` if the bytes are rejected, `Unfit` if the list does not fit, and
@@ -92,7 +92,7 @@ pub fn canon_of<P: DataLayer>(alloc: Global, bytes: &[u8]) -> Result<Vec<u8>, Ca
 }
 
 /// Returns the canonical encoding of the list that `bytes` encodes, with peers kept as bytes;
-/// `canon_of` takes other types of peer.
+/// `canon_of` takes other layers.
 ///
 /// ```text
 /// let bytes = canon(alloc, &received)?;

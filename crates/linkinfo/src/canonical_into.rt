@@ -168,7 +168,7 @@ pub(crate) fn write_canonical_of<P: DataLayer>(bytes: &[u8], buffer: &mut [u8])
     write_rest::<P>(&mut LinkInfoWalk::new(bytes), buffer);
 }
 
-/// Writes the canonical encoding of the list that `bytes` encodes, with peers of type `P`, to the
+/// Writes the canonical encoding of the list that `bytes` encodes, over the layer `P`, to the
 /// front of the buffer, and returns its length in bytes.
 ///
 /// It builds no values and does not allocate. The error is `Refused` if `check_of` rejects the
@@ -194,7 +194,7 @@ pub fn canon_into_of<P: DataLayer>(bytes: &[u8], buffer: &mut [u8]) -> Result<us
 }
 
 /// Writes the canonical encoding of the list that `bytes` encodes to the front of the buffer, and
-/// returns its length in bytes. Peers are kept as bytes; `canon_into_of` takes other types of peer.
+/// returns its length in bytes. Peers are kept as bytes; `canon_into_of` takes other layers.
 ///
 /// ```text
 /// let mut buffer = [0; 4096];

@@ -52,7 +52,7 @@ ghost use Rattle.linkinfo_numbers.specs.Table.{IsRead};
 ghost use Rattle.linkinfo_numbers.specs.declared.kind.InfoKind.{InfoKind};
 ghost use Rattle.linkinfo_numbers.specs.declared.port_kind.InfoPortKind.{InfoPortKind};
 ghost use Rattle.linkinfo_numbers.specs.declared.tags.KindTag.TheVariants as tag;
-ghost use Rattle.linkinfo_data.specs.Conditions.{conditions_of, opaque_families};
+ghost use Rattle.linkinfo_data.specs.Conditions.{conditions_of, opaque_families, own_conditions};
 ghost use Rattle.linkinfo_data.specs.DataFamilies.{data_families};
 ghost use Rattle.linkinfo_data.specs.Layered.{DataOf, PortDataOf};
 ghost use Rattle.linkinfo_data.specs.PeerLayer.{peer_types};
@@ -83,7 +83,9 @@ use crate::link_info::LinkInfoOf;
 use crate::list::VecLinkInfoOf;
 use crate::walk::{LinkInfoItem, LinkInfoWalk};
 use linkinfo_data::DataLayer;
-use linkinfo_data::laws::{families_lawful, well_formed as data_well_formed};
+use linkinfo_data::laws::{
+    families_lawful, well_formed as data_well_formed, well_formed_by as data_well_formed_by,
+};
 use linkinfo_table::{LayerFamilies, LinkLayer, LinkPeer};
 use nla_frame::ExactEq;
 
@@ -230,4 +232,13 @@ pub fn well_formed<P: LinkPeer>()
         ↔ ((d.kind < 65536) × IsBytes d.value × IsUnnamed (masked d.kind)) }
 {
     data_well_formed::<P>();
+}
+
+/// The same of any layer: attributes of a family that the layer supplies meet the condition of that
+/// family.
+pub fn well_formed_by<P: LayerFamilies>()
+    ensures { (xs : Links (data_families P.families)) → WellFormed (data_families P.families) xs
+        ↔ Conditions (conditions_of P.families.peer.well (own_conditions P.families)) xs }
+{
+    data_well_formed_by::<P>();
 }

@@ -335,7 +335,7 @@ impl<P: DataLayer> VecLinkInfoOf<P> {
     }
 }
 
-/// Validates the contents of `IFLA_LINKINFO`, with peers of type `P`: returns `Ok` if
+/// Validates the contents of `IFLA_LINKINFO`, over the layer `P`: returns `Ok` if
 /// `VecLinkInfoOf::parse` accepts them, otherwise the error of the bytes. Each header is examined
 /// once. Does not allocate.
 pub fn check_of<P: DataLayer>(bytes: &[u8]) -> Result<(), DecodeError>
@@ -393,7 +393,7 @@ fn equal_bytes_are_same<P: DataLayer>(a: &[u8], b: &[u8])
     families_lawful::<P>();
 }
 
-/// Returns whether two lists are equivalent, with peers of type `P`. The error is that of the first
+/// Returns whether two lists are equivalent, over the layer `P`. The error is that of the first
 /// list, otherwise that of the second, and says which of the two has it. Does not allocate.
 #[tactic(auto, unfolding(crate::specs::Strings::reading, crate::specs::Strings::alike_strings))]
 pub fn same_at_of<P: DataLayer>(a: &[u8], b: &[u8]) -> Result<bool, ErrorIn>
@@ -429,7 +429,7 @@ fn same_uncounted<P: DataLayer>(a: &[u8], b: &[u8]) -> Result<bool, DecodeError>
     }
 }
 
-/// Returns whether two lists are equivalent, with peers of type `P`: whether they parse as equal
+/// Returns whether two lists are equivalent, over the layer `P`: whether they parse as equal
 /// values.
 ///
 /// The error is that of the first list, otherwise that of the second. No values are built, so lists
@@ -466,7 +466,7 @@ pub fn same_of<P: DataLayer>(a: &[u8], b: &[u8]) -> Result<bool, DecodeError>
 }
 
 /// Validates the contents of `IFLA_LINKINFO`: returns `Ok` if `VecLinkInfo::parse` accepts them,
-/// otherwise the error of the bytes. Peers are kept as bytes; `check_of` takes other types of peer.
+/// otherwise the error of the bytes. Peers are kept as bytes; `check_of` takes other layers.
 /// Does not allocate.
 pub fn check(bytes: &[u8]) -> Result<(), DecodeError>
     ensures answer { result ≡ verdict (reading bytes_layer bytes.now) }
@@ -489,7 +489,7 @@ pub fn check_counted(bytes: &[u8], count: &mut HeaderCount) -> Result<(), Decode
 
 /// Returns whether two lists are equivalent: whether they parse as equal values. The error is that
 /// of the first list, otherwise that of the second. Peers are kept as bytes; `same_of` takes other
-/// types of peer. Does not allocate.
+/// layers. Does not allocate.
 pub fn same(a: &[u8], b: &[u8]) -> Result<bool, DecodeError>
     ensures answer { result
         ≡ same_answer (reading bytes_layer a.now) (reading bytes_layer b.now)
@@ -534,7 +534,7 @@ pub fn same_counted(a: &[u8], b: &[u8], count: &mut HeaderCount) -> Result<bool,
 
 /// Returns whether two lists are equivalent. The error is that of the first list, otherwise that of
 /// the second, and says which of the two has it. Peers are kept as bytes; `same_at_of` takes
-/// other types of peer. Does not allocate.
+/// other layers. Does not allocate.
 ///
 /// ```text
 /// match same_at(&wanted, &received) {

@@ -124,7 +124,7 @@ fn error_in<P: DataLayer>(nla: &NlaBuffer<'_>, role: Role) -> usize
     }
 }
 
-/// Validates the contents of `IFLA_LINKINFO`, with peers of type `P`, as `check_of` does, and
+/// Validates the contents of `IFLA_LINKINFO`, over the layer `P`, as `check_of` does, and
 /// returns the offsets of the error beside it.
 ///
 /// The offset `place` is that of an attribute of the list: for an error inside data, port data or a
@@ -166,7 +166,7 @@ pub fn check_at_of<P: DataLayer>(bytes: &[u8]) -> Result<(), ErrorAt>
 }
 
 /// Validates the contents of `IFLA_LINKINFO` as `check` does, and returns the offsets of the error
-/// beside it. Peers are kept as bytes; `check_at_of` takes other types of peer. Does not
+/// beside it. Peers are kept as bytes; `check_at_of` takes other layers. Does not
 /// allocate.
 ///
 /// ```text

@@ -8,8 +8,8 @@
 //! typed::check(&received)?; // also rejects a VLAN ID of one byte
 //! ```
 //!
-//! A list that is accepted here is accepted by the calls of the root, which keep these attributes
-//! verbatim, and it has the same canonical encoding there if it is a reply of a kernel.
+//! These calls are those of the root over another layer. What they reject, and how they compare and
+//! write vlan attributes, is said there of the calls that end in `_of`.
 
 ghost use Rattle.std.specs.Prelude.{
   ◌≡◌,
@@ -76,8 +76,8 @@ pub fn check(bytes: &[u8]) -> Result<(), DecodeError>
     check_of::<Typed<Bytes>>(bytes)
 }
 
-/// Validates the contents of `IFLA_LINKINFO` as `check` does, and returns the offsets of the error
-/// beside it. Does not allocate.
+/// Validates the contents of `IFLA_LINKINFO` over the typed layer, and returns the offsets of the
+/// error beside it: in data, and in the maps of priorities inside. Does not allocate.
 pub fn check_at(bytes: &[u8]) -> Result<(), ErrorAt>
     ensures answer { MatchResult result (λ _. IsOk (reading typed_layer bytes.now))
         (λ at. reading typed_layer bytes.now ≡ Err at.error) }
@@ -131,8 +131,8 @@ pub fn first_unmet(have: &[u8], want: &[u8]) -> Result<Option<Unmet>, ErrorIn>
 }
 
 /// Returns the first pair of attributes in which two lists differ, or `None` if and only if the
-/// lists are equivalent (`same`). The error is that of the first list, otherwise that of the
-/// second. Does not allocate.
+/// lists are equivalent over the typed layer. The error is that of the first list, otherwise that
+/// of the second. Does not allocate.
 pub fn first_difference(a: &[u8], b: &[u8]) -> Result<Option<Difference>, ErrorIn>
     ensures answer { result
         ≡ placed_answer (reading typed_layer a.now) (reading typed_layer b.now)

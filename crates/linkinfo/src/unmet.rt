@@ -286,7 +286,7 @@ fn unmet_from<P: DataLayer>(have: &[u8], want: &[u8], start: u16) -> Option<Unme
     None
 }
 
-/// The first attribute of the list `want` that the list `have` does not meet, with peers of type
+/// The first attribute of the list `want` that the list `have` does not meet, over the layer
 /// `P`, or `None` where `have` meets every attribute of `want`. Attributes of different types may
 /// be in any order, and `have` may have more.
 ///
@@ -294,9 +294,10 @@ fn unmet_from<P: DataLayer>(have: &[u8], want: &[u8], start: u16) -> Option<Unme
 /// attribute of its type in `have`, of the same kind or port kind, has an equal payload or is
 /// equivalent. Data that is a list is compared attribute by attribute (`list_unmet`), and so are
 /// lists of another family in it, at any depth: in a list that is a set, each attribute must be met
-/// by one of its type, in any order. Names, other data, statistics, lists of addresses, and lists
-/// of the family itself are compared as a whole, with their order and the flags inside. Flags of an
-/// attribute's own type do not matter. Empty data is met by data alone.
+/// by one of its type, in any order. Names, other data, statistics, and lists of the family itself
+/// are compared as a whole, with their order and the flags inside; lists of addresses as a whole,
+/// with their order, whatever the types of their elements. Flags of an attribute's own type do not
+/// matter. Empty data is met by data alone.
 ///
 /// Of what is not met, `family` is that of the innermost attribute that is told, or
 /// `Family::LinkInfo` of one of the list; offsets count from the beginning of each list. The error
@@ -324,7 +325,7 @@ pub fn first_unmet_of<P: DataLayer>(have: &[u8], want: &[u8]) -> Result<Option<U
 
 /// Returns the first attribute of the list `want` that the list `have` does not meet, or `None`
 /// where it meets all of them. The error is that of `have`, else that of `want`. Peers are kept as
-/// bytes; `first_unmet_of` takes other types of peer, and says what is met. Does not allocate.
+/// bytes; `first_unmet_of` takes other layers, and says what is met. Does not allocate.
 ///
 /// ```text
 /// match first_unmet(&received, &wanted)? {

@@ -11,7 +11,6 @@ use Rattle.std.specs.Prelude.{
   Bool,
   IfSome,
   IsOk,
-  IsSome,
   List,
   Ok,
   Option,
@@ -41,7 +40,7 @@ use Rattle.linkinfo_table.specs.Unmet.{IsUnmetWithin}
 use Rattle.linkinfo_table.specs.declared.difference.Difference.{Difference}
 use Rattle.linkinfo_table.specs.declared.unmet.Unmet.{Unmet}
 use Rattle.linkinfo_data.specs.Encoding.{HasRoom}
-use Rattle.linkinfo_data.specs.Lists.{difference_in, error_in, family_in, unmet_in}
+use Rattle.linkinfo_data.specs.Lists.{difference_in, error_in, unmet_in}
 use Rattle.linkinfo_data.specs.Payloads.{Payload}
 
 -- of payloads, what does not depend on the variant: as in `Payload`
@@ -116,18 +115,14 @@ Measured facts p result =
 abbrev pub WriteReady : Facts → List ℕ → List ℕ → Type 0
 WriteReady facts p buffer = IsOk (facts.verdicts p) × HasRoom (facts.canonical p) buffer
 
--- payloads that are lists
-abbrev pub ListReady : Facts → Type 0
-ListReady facts = IsSome (family_in facts.contents)
-
--- the offset of the error of such a payload, if it has one
+-- the offset of the error of a payload that is a list, if it has one
 abbrev pub ErrorFound : Facts → List ℕ → Option ℕ → Type 0
 ErrorFound facts p result =
     (result ≡ error_in facts.contents p) × IfSome result (λ n. n ≤ length p)
 
--- two of them that are accepted
+-- two payloads that are accepted
 abbrev pub PairReady : Facts → List ℕ → List ℕ → Type 0
-PairReady facts p q = ListReady facts × IsOk (facts.verdicts p) × IsOk (facts.verdicts q)
+PairReady facts p q = IsOk (facts.verdicts p) × IsOk (facts.verdicts q)
 
 -- their first difference, and the first attribute of one that the other does not meet
 abbrev pub DifferenceFound : Facts → List ℕ → List ℕ → Option Difference → Type 0

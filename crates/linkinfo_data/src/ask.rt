@@ -9,7 +9,6 @@ ghost use Rattle.linkinfo_data.specs.Asking.{
   DifferenceFound,
   ErrorFound,
   Facts,
-  ListReady,
   Measured,
   PairReady,
   SameReady,
@@ -253,8 +252,8 @@ impl<'a> Ask for WriteCanonical<'a> {
     }
 }
 
-/// The offset of the error of a payload, in bytes from its beginning, or `None` if it is accepted.
-/// Requires that payloads are lists.
+/// The offset of the error of a payload, in bytes from its beginning, or `None` if it is accepted
+/// or no list.
 #[derive(Clone, Copy)]
 pub struct FindError<'a> {
     /// The payload.
@@ -264,7 +263,7 @@ pub struct FindError<'a> {
 impl<'a> Ask for FindError<'a> {
     type Answer = Option<usize>;
 
-    ghost ready = { λ facts _ _ _. ListReady facts };
+    ghost ready = { λ _ _ _ _. Unit {0} };
 
     ghost answered = { λ facts question _ _ _ _ answer.
         ErrorFound facts question.payload.now answer };
@@ -286,17 +285,16 @@ impl<'a> Ask for FindError<'a> {
         _count: &mut HeaderCount,
         _buffer: &mut [u8],
     ) -> Option<usize> {
-        unreachable!()
+        None
     }
 
     #[inline(always)]
     fn of_bytes(self, _count: &mut HeaderCount, _buffer: &mut [u8]) -> Option<usize> {
-        unreachable!()
+        None
     }
 }
 
-/// The first difference of two accepted payloads, or `None` if they are equivalent. Requires that
-/// payloads are lists.
+/// The first difference of two accepted payloads, or `None` if they are equivalent or no lists.
 #[derive(Clone, Copy)]
 pub struct FindDifference<'a> {
     /// The first payload.
@@ -330,17 +328,17 @@ impl<'a> Ask for FindDifference<'a> {
         _count: &mut HeaderCount,
         _buffer: &mut [u8],
     ) -> Option<Difference> {
-        unreachable!()
+        None
     }
 
     #[inline(always)]
     fn of_bytes(self, _count: &mut HeaderCount, _buffer: &mut [u8]) -> Option<Difference> {
-        unreachable!()
+        None
     }
 }
 
 /// The first attribute of an accepted payload that another one does not meet, or `None` if it meets
-/// all of them. Requires that payloads are lists.
+/// all of them or payloads are no lists.
 #[derive(Clone, Copy)]
 pub struct FindUnmet<'a> {
     /// The payload that is to meet the other one.
@@ -374,12 +372,12 @@ impl<'a> Ask for FindUnmet<'a> {
         _count: &mut HeaderCount,
         _buffer: &mut [u8],
     ) -> Option<Unmet> {
-        unreachable!()
+        None
     }
 
     #[inline(always)]
     fn of_bytes(self, _count: &mut HeaderCount, _buffer: &mut [u8]) -> Option<Unmet> {
-        unreachable!()
+        None
     }
 }
 

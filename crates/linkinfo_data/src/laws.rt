@@ -21,9 +21,9 @@ pub fn families_lawful<P: DataLayer>()
     ensures { AreLawful P.families }
 {}
 
-/// Each error of data of a family is `(Frame, 0, Header)` or names the family. The same holds for
-/// port data. The families' names are in the tables `data_name` and `port_data_name`, in which the
-/// families that the layer supplies have the names that it gives.
+/// Each error of data of a family is `(Frame, 0, Header)`, or names the family or one of those
+/// inside it. The same holds for port data. The families' names are in the tables `data_name` and
+/// `port_data_name`, in which the families that the layer supplies have the names that it gives.
 pub fn errors_named<P: LinkLayer>()
     ensures { AreNamed ⟦<P as LayerFamilies>⟧.families }
 {

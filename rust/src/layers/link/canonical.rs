@@ -51,7 +51,7 @@ impl From<AllocError> for CanonError {
 
 impl ExactEq for CanonError {}
 
-/// Returns the canonical encoding of the list that `bytes` encodes, with peers of type `P`.
+/// Returns the canonical encoding of the list that `bytes` encodes, over the layer `P`.
 ///
 /// It is the result of [`VecLinkInfoOf::parse`] and `to_vec`, without building values. The error is
 /// that of `parse` if the bytes are rejected, `Unfit` if the list does not fit, and `(Frame, 0,
@@ -68,7 +68,7 @@ pub fn canon_of<P: DataLayer>(bytes: &[u8]) -> Result<Vec<u8>, CanonError> {
 }
 
 /// Returns the canonical encoding of the list that `bytes` encodes, with peers kept as bytes;
-/// [`canon_of`] takes other types of peer.
+/// [`canon_of`] takes other layers.
 ///
 /// ```
 /// use linkinfo::canon;

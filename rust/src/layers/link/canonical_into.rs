@@ -92,8 +92,8 @@ pub(crate) fn write_canonical_of<P: DataLayer>(bytes: &[u8], buffer: &mut [u8]) 
     write_rest::<P>(&mut LinkInfoWalk::new(bytes), buffer);
 }
 
-/// Writes the canonical encoding of the list that `bytes` encodes, with peers of type `P`, to the
-/// front of the buffer, and returns its length in bytes.
+/// Writes the canonical encoding of the list that `bytes` encodes, over the layer `P`, to the front
+/// of the buffer, and returns its length in bytes.
 ///
 /// It builds no values and does not allocate. The error is `Refused` if [`check_of`] rejects the
 /// bytes. It is `Unfit` if the list does not fit, and `Short`, with the length that is needed, if
@@ -114,8 +114,7 @@ pub fn canon_into_of<P: DataLayer>(
 }
 
 /// Writes the canonical encoding of the list that `bytes` encodes to the front of the buffer, and
-/// returns its length in bytes. Peers are kept as bytes; [`canon_into_of`] takes other types of
-/// peer.
+/// returns its length in bytes. Peers are kept as bytes; [`canon_into_of`] takes other layers.
 ///
 /// ```
 /// use linkinfo::canon_into;

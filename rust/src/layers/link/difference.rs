@@ -88,8 +88,8 @@ fn first_difference_in<P: DataLayer>(a: &[u8], b: &[u8]) -> Option<Difference> {
     Some(Difference::of_second(Family::LinkInfo, &second))
 }
 
-/// Returns the first pair of attributes in which two lists differ, with peers of type `P`, or
-/// `None` if and only if the lists are equivalent ([`same_of`]).
+/// Returns the first pair of attributes in which two lists differ, over the layer `P`, or `None` if
+/// and only if the lists are equivalent ([`same_of`]).
 ///
 /// Attributes are compared in byte order. Data that is a list is compared attribute by attribute,
 /// and so are lists inside it, of any family. Data of veth and vxcan links, and data without a

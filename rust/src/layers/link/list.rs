@@ -205,7 +205,7 @@ impl<P: DataLayer> VecLinkInfoOf<P> {
     }
 }
 
-/// Validates the contents of `IFLA_LINKINFO`, with peers of type `P`: returns `Ok` if
+/// Validates the contents of `IFLA_LINKINFO`, over the layer `P`: returns `Ok` if
 /// [`VecLinkInfoOf::parse`] accepts them, otherwise the error of the bytes. Each header is examined
 /// once. Does not allocate.
 ///
@@ -251,7 +251,7 @@ pub fn same_counted_of<P: DataLayer>(
     Ok(same_strings::<P>(a, b, count))
 }
 
-/// Returns whether two lists are equivalent, with peers of type `P`. The error is that of the first
+/// Returns whether two lists are equivalent, over the layer `P`. The error is that of the first
 /// list, otherwise that of the second, and says which of the two has it. Does not allocate.
 pub fn same_at_of<P: DataLayer>(a: &[u8], b: &[u8]) -> Result<bool, ErrorIn> {
     match check_of::<P>(a) {
@@ -279,7 +279,7 @@ fn same_uncounted<P: DataLayer>(a: &[u8], b: &[u8]) -> Result<bool, DecodeError>
     }
 }
 
-/// Returns whether two lists are equivalent, with peers of type `P`: whether they parse as equal
+/// Returns whether two lists are equivalent, over the layer `P`: whether they parse as equal
 /// values.
 ///
 /// The error is that of the first list, otherwise that of the second. No values are built, so lists
@@ -295,8 +295,8 @@ pub fn same_of<P: DataLayer>(a: &[u8], b: &[u8]) -> Result<bool, DecodeError> {
 }
 
 /// Validates the contents of `IFLA_LINKINFO`: returns `Ok` if [`VecLinkInfo::parse`] accepts them,
-/// otherwise the error of the bytes. Peers are kept as bytes; [`check_of`] takes other types of
-/// peer. Does not allocate.
+/// otherwise the error of the bytes. Peers are kept as bytes; [`check_of`] takes other layers. Does
+/// not allocate.
 ///
 /// [`VecLinkInfo::parse`]: crate::layers::link::VecLinkInfoOf::parse
 /// [`check_of`]: crate::layers::link::check_of
@@ -319,7 +319,7 @@ pub fn check_counted(bytes: &[u8], count: &mut HeaderCount) -> Result<(), Decode
 
 /// Returns whether two lists are equivalent: whether they parse as equal values. The error is that
 /// of the first list, otherwise that of the second. Peers are kept as bytes; [`same_of`] takes
-/// other types of peer. Does not allocate.
+/// other layers. Does not allocate.
 ///
 /// [`same_of`]: crate::layers::link::same_of
 pub fn same(a: &[u8], b: &[u8]) -> Result<bool, DecodeError> {
@@ -342,7 +342,7 @@ pub fn same_counted(a: &[u8], b: &[u8], count: &mut HeaderCount) -> Result<bool,
 
 /// Returns whether two lists are equivalent. The error is that of the first list, otherwise that of
 /// the second, and says which of the two has it. Peers are kept as bytes; [`same_at_of`] takes
-/// other types of peer. Does not allocate.
+/// other layers. Does not allocate.
 ///
 /// ```
 /// use linkinfo::{ErrorIn, same_at};

@@ -87,8 +87,8 @@ fn error_in<P: DataLayer>(nla: &NlaBuffer<'_>, role: Role) -> usize {
     }
 }
 
-/// Validates the contents of `IFLA_LINKINFO`, with peers of type `P`, as [`check_of`] does, and
-/// returns the offsets of the error beside it.
+/// Validates the contents of `IFLA_LINKINFO`, over the layer `P`, as [`check_of`] does, and returns
+/// the offsets of the error beside it.
 ///
 /// The offset `place` is that of an attribute of the list: for an error inside data, port data or a
 /// list in them, it is that of the data's own header. Each header is examined once, those of
@@ -125,8 +125,7 @@ pub fn check_at_of<P: DataLayer>(bytes: &[u8]) -> Result<(), ErrorAt> {
 }
 
 /// Validates the contents of `IFLA_LINKINFO` as [`check`] does, and returns the offsets of the
-/// error beside it. Peers are kept as bytes; [`check_at_of`] takes other types of peer. Does not
-/// allocate.
+/// error beside it. Peers are kept as bytes; [`check_at_of`] takes other layers. Does not allocate.
 ///
 /// ```
 /// use linkinfo::check_at;

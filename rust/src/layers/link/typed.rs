@@ -19,8 +19,8 @@
 //! # Ok::<(), linkinfo::DecodeError>(())
 //! ```
 //!
-//! A list that is accepted here is accepted by the calls of the root, which keep these attributes
-//! verbatim, and it has the same canonical encoding there if it is a reply of a kernel.
+//! These calls are those of the root over another layer. What they reject, and how they compare and
+//! write vlan attributes, is said there of the calls that end in `_of`.
 
 use crate::layers::data::{Difference, InfoDataOf, InfoPortDataOf, Unmet};
 use crate::layers::link::canonical::{CanonError, canon_of};
@@ -55,10 +55,8 @@ pub fn check(bytes: &[u8]) -> Result<(), DecodeError> {
     check_of::<Typed<Bytes>>(bytes)
 }
 
-/// Validates the contents of `IFLA_LINKINFO` as [`check`] does, and returns the offsets of the
-/// error beside it. Does not allocate.
-///
-/// [`check`]: crate::layers::link::check
+/// Validates the contents of `IFLA_LINKINFO` over the typed layer, and returns the offsets of the
+/// error beside it: in data, and in the maps of priorities inside. Does not allocate.
 pub fn check_at(bytes: &[u8]) -> Result<(), ErrorAt> {
     check_at_of::<Typed<Bytes>>(bytes)
 }
@@ -80,10 +78,8 @@ pub fn first_unmet(have: &[u8], want: &[u8]) -> Result<Option<Unmet>, ErrorIn> {
 }
 
 /// Returns the first pair of attributes in which two lists differ, or `None` if and only if the
-/// lists are equivalent ([`same`]). The error is that of the first list, otherwise that of the
-/// second. Does not allocate.
-///
-/// [`same`]: crate::layers::link::same
+/// lists are equivalent over the typed layer. The error is that of the first list, otherwise that
+/// of the second. Does not allocate.
 pub fn first_difference(a: &[u8], b: &[u8]) -> Result<Option<Difference>, ErrorIn> {
     first_difference_of::<Typed<Bytes>>(a, b)
 }
