@@ -25,6 +25,7 @@ mod marked;
 mod nested;
 mod netkit;
 mod opaque;
+mod payloads;
 mod peers;
 mod rmnet;
 mod rows;

@@ -208,8 +208,8 @@ impl<'a> Ask for WriteCanonical<'a> {
     }
 }
 
-/// The offset of the error of a payload, in bytes from its beginning, or `None` if it is accepted.
-/// Requires that payloads are lists.
+/// The offset of the error of a payload, in bytes from its beginning, or `None` if it is accepted
+/// or no list.
 #[derive(Clone, Copy)]
 pub struct FindError<'a> {
     /// The payload.
@@ -236,17 +236,16 @@ impl<'a> Ask for FindError<'a> {
         _count: &mut HeaderCount,
         _buffer: &mut [u8],
     ) -> Option<usize> {
-        unreachable!()
+        None
     }
 
     #[inline(always)]
     fn of_bytes(self, _count: &mut HeaderCount, _buffer: &mut [u8]) -> Option<usize> {
-        unreachable!()
+        None
     }
 }
 
-/// The first difference of two accepted payloads, or `None` if they are equivalent. Requires that
-/// payloads are lists.
+/// The first difference of two accepted payloads, or `None` if they are equivalent or no lists.
 #[derive(Clone, Copy)]
 pub struct FindDifference<'a> {
     /// The first payload.
@@ -275,17 +274,17 @@ impl<'a> Ask for FindDifference<'a> {
         _count: &mut HeaderCount,
         _buffer: &mut [u8],
     ) -> Option<Difference> {
-        unreachable!()
+        None
     }
 
     #[inline(always)]
     fn of_bytes(self, _count: &mut HeaderCount, _buffer: &mut [u8]) -> Option<Difference> {
-        unreachable!()
+        None
     }
 }
 
 /// The first attribute of an accepted payload that another one does not meet, or `None` if it meets
-/// all of them. Requires that payloads are lists.
+/// all of them or payloads are no lists.
 #[derive(Clone, Copy)]
 pub struct FindUnmet<'a> {
     /// The payload that is to meet the other one.
@@ -314,12 +313,12 @@ impl<'a> Ask for FindUnmet<'a> {
         _count: &mut HeaderCount,
         _buffer: &mut [u8],
     ) -> Option<Unmet> {
-        unreachable!()
+        None
     }
 
     #[inline(always)]
     fn of_bytes(self, _count: &mut HeaderCount, _buffer: &mut [u8]) -> Option<Unmet> {
-        unreachable!()
+        None
     }
 }
 

@@ -130,6 +130,23 @@ fn lists_of_addresses() {
     list_is_written_as::<InfoBond>((), &[4, 0, 31, 0], &[4, 0, 31, 0x80]);
 }
 
+/// As many targets as the kernel takes (`BOND_MAX_ARP_TARGETS`, include/net/bonding.h).
+const SIXTEEN: &[u8] = &[
+    132, 0, 8, 0, 8, 0, 0, 0, 10, 0, 0, 0, 8, 0, 1, 0, 10, 0, 0, 1, 8, 0, 2, 0, 10, 0, 0, 2, 8, 0,
+    3, 0, 10, 0, 0, 3, 8, 0, 4, 0, 10, 0, 0, 4, 8, 0, 5, 0, 10, 0, 0, 5, 8, 0, 6, 0, 10, 0, 0, 6,
+    8, 0, 7, 0, 10, 0, 0, 7, 8, 0, 8, 0, 10, 0, 0, 8, 8, 0, 9, 0, 10, 0, 0, 9, 8, 0, 10, 0, 10, 0,
+    0, 10, 8, 0, 11, 0, 10, 0, 0, 11, 8, 0, 12, 0, 10, 0, 0, 12, 8, 0, 13, 0, 10, 0, 0, 13, 8, 0,
+    14, 0, 10, 0, 0, 14, 8, 0, 15, 0, 10, 0, 0, 15,
+];
+
+#[test]
+fn as_many_targets_as_the_kernel_takes() {
+    let text = "[ArpIpTarget(Addresses { items: [10.0.0.0, 10.0.0.1, 10.0.0.2, 10.0.0.3, \
+                10.0.0.4, 10.0.0.5, 10.0.0.6, 10.0.0.7, 10.0.0.8, 10.0.0.9, 10.0.0.10, \
+                10.0.0.11, 10.0.0.12, 10.0.0.13, 10.0.0.14, 10.0.0.15] })]";
+    is_list_of_targets(SIXTEEN, text, 17, SIXTEEN);
+}
+
 #[test]
 fn values_of_addresses() {
     let mut items = Vec::new();
