@@ -7,7 +7,7 @@ ghost use Rattle.linkinfo_data.specs.InfoData.{data_payload};
 
 use crate::data::family_of;
 use crate::encode::Encode;
-use crate::layer::DataLayer;
+use crate::layer::LayerCalls;
 // Begin: written by tables/generate from tables/kinds (device).
 use linkinfo_devices::{
     InfoIpVlan, InfoIpVtap, InfoIpoib, InfoMacSec, InfoMacVlan, InfoMacVtap, InfoRmNet, InfoVrf,
@@ -139,7 +139,7 @@ impl<P: LinkLayer> InfoDataOf<P> {
             (family_of (tag_of_kind kind.now))).means payload.now) }
     {
         let mut count = HeaderCount::new();
-        P::read_data(family_of(kind.tag()), alloc, payload, &mut count)
+        P::layer_read_data(family_of(kind.tag()), alloc, payload, &mut count)
     }
 }
 
@@ -211,7 +211,7 @@ impl<P: LinkLayer> Nla for InfoDataOf<P> {
     }
 
     fn emit_payload(&self, buffer: &mut [u8]) -> usize {
-        P::write_data(self, buffer)
+        P::layer_write_data(self, buffer)
     }
 
     #[tactic(auto, using(nla_frame::proofs::Emitting::whole))]
@@ -220,7 +220,7 @@ impl<P: LinkLayer> Nla for InfoDataOf<P> {
     }
 
     fn fit_len(&self) -> Option<usize> {
-        P::data_fit_len(self)
+        P::layer_data_fit_len(self)
     }
 }
 

@@ -19,7 +19,16 @@ use linkinfo_table::{LayerFamilies, LinkLayer, LinkPeer};
 /// of the layer that supplies it.
 pub fn families_lawful<P: DataLayer>()
     ensures { AreLawful P.families }
-{}
+{
+    P::lawful();
+}
+
+/// The same by the families that a layer supplies.
+pub fn families_lawful_by<L: LinkLayer>()
+    ensures { AreLawful (data_families ⟦<L as LayerFamilies>⟧.families) }
+{
+    lawful::<L>();
+}
 
 /// Each error of data of a family is `(Frame, 0, Header)`, or names the family or one of those
 /// inside it. The same holds for port data. The families' names are in the tables `data_name` and
@@ -56,4 +65,6 @@ pub fn well_formed_by<P: LayerFamilies>()
 /// if and only if it is accepted.
 pub fn located<P: DataLayer>()
     ensures { AreLocated P.families }
-{}
+{
+    P::lawful();
+}

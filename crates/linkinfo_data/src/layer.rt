@@ -4,11 +4,15 @@
 ghost use Rattle.std.specs.Prelude.{◌+◌, ◌/◌, ◌<◌, ◌^◌, length};
 ghost use Rattle.nla_frame.specs.Writing.{Writes};
 ghost use Rattle.linkinfo_table.specs.Calls.{Reads};
+ghost use Rattle.linkinfo_table.specs.Layers.{Families};
 ghost use Rattle.linkinfo_data.specs.Asking.{facts_of};
+ghost use Rattle.linkinfo_data.specs.Data.{data_of};
 ghost use Rattle.linkinfo_data.specs.DataFamilies.{DataFamilies};
 ghost use Rattle.linkinfo_data.specs.Encoding.{HasRoom, IsFitLen};
+ghost use Rattle.linkinfo_data.specs.InfoData.{data_payload};
 ghost use Rattle.linkinfo_data.specs.Known.{IsKnown};
 ghost use Rattle.linkinfo_data.specs.Lawful.{AreLawful};
+ghost use Rattle.linkinfo_data.specs.PortData.{port_data_of, port_data_payload};
 ghost use Rattle.linkinfo_data.specs.declared.data.DataFamily.{DataFamily};
 ghost use Rattle.linkinfo_data.specs.declared.port_data.PortFamily.{PortFamily};
 
@@ -17,17 +21,19 @@ use crate::calls::{ask, read};
 use crate::data::DataFamily;
 use crate::encode::{FitLen, Write};
 use crate::info_data::InfoDataOf;
+use crate::laws::families_lawful_by;
 use crate::payload_family::PayloadFamily;
 use crate::port_data::{InfoPortDataOf, PortFamily};
 use linkinfo_devices::InfoVrfPort;
 use linkinfo_peers::InfoTeamPort;
-use linkinfo_table::{LayerFamilies, LinkLayer};
+use linkinfo_table::{LayerFamilies, LinkLayer, LinkPeer};
 use nla_frame::{Bytes, DecodeError, ExactEq, HeaderCount};
 use std::alloc::Global;
+use std::marker::PhantomData;
 
 /// A layer, as what is made of data and of port data sees it: the types of both, and the calls on
-/// them by family. Every `LinkLayer` implements it, with `InfoDataOf` and `InfoPortDataOf`, and no
-/// other type does.
+/// them by family. Every `LinkPeer` implements it, and so do `Typed` of one and `Layered` of each
+/// `LinkLayer`, with `InfoDataOf` and `InfoPortDataOf`.
 ///
 /// Contracts of generic code speak of `families`, and know of them only that they are lawful.
 pub trait DataLayer: Eq + Sized {
@@ -114,13 +120,103 @@ pub trait DataLayer: Eq + Sized {
         ensures { Writes (families.port_data_payload value.now) buffer.old buffer.new result };
 
     /// Data and port data of each family are lawful.
-    ghost lawful: { AreLawful families };
+    fn lawful()
+        ensures { AreLawful families };
 
     /// Validating data gives the verdict on what it means.
     ghost data_known: { (family : DataFamily) → IsKnown (families.data_of family) };
 
     /// The same of port data.
     ghost port_data_known: { (family : PortFamily) → IsKnown (families.port_data_of family) };
+}
+
+/// The calls on the data and port data of a `LinkLayer`, by the families that it supplies. Every
+/// `LinkLayer` implements it, and no other type does. What implements `DataLayer` calls these, so
+/// that who calls `DataLayer` carries two types in place of ten.
+pub trait LayerCalls: LinkLayer {
+    /// What the peer and the families of the layer define.
+    ghost families: { Families (record {
+      Layer = Self;
+      Peer = Self.Peer;
+      Bond = Self.Bond;
+      Bridge = Self.Bridge;
+      Vlan = Self.Vlan;
+      Can = Self.Can;
+      Hsr = Self.Hsr;
+      Dsa = Self.Dsa;
+      Tun = Self.Tun;
+      BondPort = Self.BondPort;
+      BridgePort = Self.BridgePort;
+    }) };
+
+    /// Parses a payload as data of a family, as `PayloadFamily::read` does.
+    fn layer_read_data(
+        family: DataFamily,
+        alloc: Global,
+        payload: &[u8],
+        count: &mut HeaderCount,
+    ) -> Result<InfoDataOf<Self>, DecodeError>
+        requires { count.old + length payload.now / 4 < 2 ^ 64 }
+        ensures { Reads (λ value. value) result ((data_of families family).means payload.now)
+            ((data_of families family).needs_memory payload.now)
+            ((data_of families family).headers payload.now)
+            (length payload.now) count.old count.new };
+
+    /// Makes a call that returns no parsed value, for payloads of data of a family. Does not
+    /// allocate.
+    fn layer_ask_data<Q: Ask>(
+        family: DataFamily,
+        question: Q,
+        count: &mut HeaderCount,
+        buffer: &mut [u8],
+    ) -> Q::Answer
+        requires { Q.ready (facts_of (data_of families family)) question count.old buffer.old }
+        ensures { Q.answered (facts_of (data_of families family)) question count.old count.new
+            buffer.old buffer.new result };
+
+    /// Returns the length of the canonical payload of data, or `None` if it does not fit.
+    fn layer_data_fit_len(value: &InfoDataOf<Self>) -> Option<usize>
+        ensures { IsFitLen (data_payload families value.now) result };
+
+    /// Writes the canonical payload of data to the front of the buffer, and returns its length.
+    fn layer_write_data(value: &InfoDataOf<Self>, buffer: &mut [u8]) -> usize
+        requires { HasRoom (data_payload families value.now) buffer.old }
+        ensures { Writes (data_payload families value.now) buffer.old buffer.new result };
+
+    /// Parses a payload as port data of a family, as `PayloadFamily::read` does.
+    fn layer_read_port_data(
+        family: PortFamily,
+        alloc: Global,
+        payload: &[u8],
+        count: &mut HeaderCount,
+    ) -> Result<InfoPortDataOf<Self>, DecodeError>
+        requires { count.old + length payload.now / 4 < 2 ^ 64 }
+        ensures { Reads (λ value. value) result ((port_data_of families family).means payload.now)
+            ((port_data_of families family).needs_memory payload.now)
+            ((port_data_of families family).headers payload.now)
+            (length payload.now) count.old count.new };
+
+    /// Makes a call that returns no parsed value, for payloads of port data of a family. Does not
+    /// allocate.
+    fn layer_ask_port_data<Q: Ask>(
+        family: PortFamily,
+        question: Q,
+        count: &mut HeaderCount,
+        buffer: &mut [u8],
+    ) -> Q::Answer
+        requires { Q.ready (facts_of (port_data_of families family)) question count.old buffer.old }
+        ensures { Q.answered (facts_of (port_data_of families family)) question count.old count.new
+            buffer.old buffer.new result };
+
+    /// Returns the length of the canonical payload of port data, or `None` if it does not fit.
+    fn layer_port_data_fit_len(value: &InfoPortDataOf<Self>) -> Option<usize>
+        ensures { IsFitLen (port_data_payload families value.now) result };
+
+    /// Writes the canonical payload of port data to the front of the buffer, and returns its
+    /// length.
+    fn layer_write_port_data(value: &InfoPortDataOf<Self>, buffer: &mut [u8]) -> usize
+        requires { HasRoom (port_data_payload families value.now) buffer.old }
+        ensures { Writes (port_data_payload families value.now) buffer.old buffer.new result };
 }
 
 /// Matches a family of ports, and expands `$call!`, of `calls`, for its data.
@@ -137,46 +233,10 @@ macro_rules! of_port {
     };
 }
 
-impl<L: LinkLayer> DataLayer for L {
-    ghost use Rattle.linkinfo_table.proofs.Layering.{supplied_family};
-    ghost use Rattle.linkinfo_data.specs.Data.{data_known};
-    ghost use Rattle.linkinfo_data.specs.DataFamilies.{data_families};
-    ghost use Rattle.linkinfo_data.specs.PortData.{port_known};
-    ghost use Rattle.linkinfo_data.specs.DataLawful.{data_lawful};
+impl<L: LinkLayer> LayerCalls for L {
+    ghost families = { ⟦<L as LayerFamilies>⟧.families };
 
-    type Data = InfoDataOf<L>;
-
-    type PortData = InfoPortDataOf<L>;
-
-    ghost families = { data_families ⟦<L as LayerFamilies>⟧.families };
-
-    ghost data_known = { data_known ⟦<L as LayerFamilies>⟧.families };
-
-    ghost port_data_known = { port_known ⟦<L as LayerFamilies>⟧.families };
-
-    ghost lawful = { data_lawful ⟦<L as LayerFamilies>⟧.families (record {
-      peer = L.Peer.LinkPeer.lawful;
-      bond = supplied_family L.Bond.LinkFamily.own L.Bond.Nla.attribute
-          L.Bond.looked_up L.Bond.LinkFamily.lawful tt;
-      bridge = supplied_family L.Bridge.LinkFamily.own L.Bridge.Nla.attribute
-          L.Bridge.looked_up L.Bridge.LinkFamily.lawful tt;
-      vlan = supplied_family L.Vlan.LinkFamily.own L.Vlan.Nla.attribute
-          L.Vlan.looked_up L.Vlan.LinkFamily.lawful tt;
-      can = supplied_family L.Can.LinkFamily.own L.Can.Nla.attribute
-          L.Can.looked_up L.Can.LinkFamily.lawful tt;
-      hsr = supplied_family L.Hsr.LinkFamily.own L.Hsr.Nla.attribute
-          L.Hsr.looked_up L.Hsr.LinkFamily.lawful tt;
-      dsa = supplied_family L.Dsa.LinkFamily.own L.Dsa.Nla.attribute
-          L.Dsa.looked_up L.Dsa.LinkFamily.lawful tt;
-      tun = supplied_family L.Tun.LinkFamily.own L.Tun.Nla.attribute
-          L.Tun.looked_up L.Tun.LinkFamily.lawful tt;
-      bond_port = supplied_family L.BondPort.LinkFamily.own L.BondPort.Nla.attribute
-          L.BondPort.looked_up L.BondPort.LinkFamily.lawful tt;
-      bridge_port = supplied_family L.BridgePort.LinkFamily.own L.BridgePort.Nla.attribute
-          L.BridgePort.looked_up L.BridgePort.LinkFamily.lawful tt;
-    }) };
-
-    fn read_data(
+    fn layer_read_data(
         family: DataFamily,
         alloc: Global,
         payload: &[u8],
@@ -192,7 +252,7 @@ impl<L: LinkLayer> DataLayer for L {
     }
 
     #[inline(always)]
-    fn ask_data<Q: Ask>(
+    fn layer_ask_data<Q: Ask>(
         family: DataFamily,
         question: Q,
         count: &mut HeaderCount,
@@ -207,15 +267,15 @@ impl<L: LinkLayer> DataLayer for L {
         }
     }
 
-    fn data_fit_len(value: &InfoDataOf<L>) -> Option<usize> {
+    fn layer_data_fit_len(value: &InfoDataOf<L>) -> Option<usize> {
         value.encode(FitLen, &mut [])
     }
 
-    fn write_data(value: &InfoDataOf<L>, buffer: &mut [u8]) -> usize {
+    fn layer_write_data(value: &InfoDataOf<L>, buffer: &mut [u8]) -> usize {
         value.encode(Write, buffer)
     }
 
-    fn read_port_data(
+    fn layer_read_port_data(
         family: PortFamily,
         alloc: Global,
         payload: &[u8],
@@ -225,7 +285,7 @@ impl<L: LinkLayer> DataLayer for L {
     }
 
     #[inline(always)]
-    fn ask_port_data<Q: Ask>(
+    fn layer_ask_port_data<Q: Ask>(
         family: PortFamily,
         question: Q,
         count: &mut HeaderCount,
@@ -234,11 +294,166 @@ impl<L: LinkLayer> DataLayer for L {
         of_port!(family, ask(question, count, buffer))
     }
 
-    fn port_data_fit_len(value: &InfoPortDataOf<L>) -> Option<usize> {
+    fn layer_port_data_fit_len(value: &InfoPortDataOf<L>) -> Option<usize> {
         value.encode(FitLen, &mut [])
     }
 
-    fn write_port_data(value: &InfoPortDataOf<L>, buffer: &mut [u8]) -> usize {
+    fn layer_write_port_data(value: &InfoPortDataOf<L>, buffer: &mut [u8]) -> usize {
         value.encode(Write, buffer)
+    }
+}
+
+/// The layer of a peer, whose families are opaque.
+impl<P: LinkPeer> DataLayer for P {
+    ghost use Rattle.linkinfo_data.specs.Data.{data_known};
+    ghost use Rattle.linkinfo_data.specs.DataFamilies.{data_families};
+    ghost use Rattle.linkinfo_data.specs.PortData.{port_known};
+
+    type Data = InfoDataOf<P>;
+
+    type PortData = InfoPortDataOf<P>;
+
+    ghost families = { data_families ⟦<P as LayerFamilies>⟧.families };
+
+    ghost data_known = { data_known ⟦<P as LayerFamilies>⟧.families };
+
+    ghost port_data_known = { port_known ⟦<P as LayerFamilies>⟧.families };
+
+    fn lawful() {
+        families_lawful_by::<P>();
+    }
+
+    fn read_data(
+        family: DataFamily,
+        alloc: Global,
+        payload: &[u8],
+        count: &mut HeaderCount,
+    ) -> Result<InfoDataOf<P>, DecodeError> {
+        P::layer_read_data(family, alloc, payload, count)
+    }
+
+    #[inline(always)]
+    fn ask_data<Q: Ask>(
+        family: DataFamily,
+        question: Q,
+        count: &mut HeaderCount,
+        buffer: &mut [u8],
+    ) -> Q::Answer {
+        P::layer_ask_data(family, question, count, buffer)
+    }
+
+    fn data_fit_len(value: &InfoDataOf<P>) -> Option<usize> {
+        P::layer_data_fit_len(value)
+    }
+
+    fn write_data(value: &InfoDataOf<P>, buffer: &mut [u8]) -> usize {
+        P::layer_write_data(value, buffer)
+    }
+
+    fn read_port_data(
+        family: PortFamily,
+        alloc: Global,
+        payload: &[u8],
+        count: &mut HeaderCount,
+    ) -> Result<InfoPortDataOf<P>, DecodeError> {
+        P::layer_read_port_data(family, alloc, payload, count)
+    }
+
+    #[inline(always)]
+    fn ask_port_data<Q: Ask>(
+        family: PortFamily,
+        question: Q,
+        count: &mut HeaderCount,
+        buffer: &mut [u8],
+    ) -> Q::Answer {
+        P::layer_ask_port_data(family, question, count, buffer)
+    }
+
+    fn port_data_fit_len(value: &InfoPortDataOf<P>) -> Option<usize> {
+        P::layer_port_data_fit_len(value)
+    }
+
+    fn write_port_data(value: &InfoPortDataOf<P>, buffer: &mut [u8]) -> usize {
+        P::layer_write_port_data(value, buffer)
+    }
+}
+
+/// A `LinkLayer` of your own, as the layer of lists: `VecLinkInfoOf<Layered<MyLayer>>`.
+#[derive(Clone, Debug, PartialEq, Eq, Drop)]
+pub struct Layered<L> {
+    of: PhantomData<L>,
+}
+
+impl<L: LinkLayer> DataLayer for Layered<L> {
+    ghost use Rattle.linkinfo_data.specs.Data.{data_known};
+    ghost use Rattle.linkinfo_data.specs.DataFamilies.{families_at};
+    ghost use Rattle.linkinfo_data.specs.PortData.{port_known};
+
+    type Data = InfoDataOf<L>;
+
+    type PortData = InfoPortDataOf<L>;
+
+    ghost families = { families_at _ ⟦<L as LayerFamilies>⟧.families };
+
+    ghost data_known = { data_known ⟦<L as LayerFamilies>⟧.families };
+
+    ghost port_data_known = { port_known ⟦<L as LayerFamilies>⟧.families };
+
+    fn lawful() {
+        families_lawful_by::<L>();
+    }
+
+    fn read_data(
+        family: DataFamily,
+        alloc: Global,
+        payload: &[u8],
+        count: &mut HeaderCount,
+    ) -> Result<InfoDataOf<L>, DecodeError> {
+        L::layer_read_data(family, alloc, payload, count)
+    }
+
+    #[inline(always)]
+    fn ask_data<Q: Ask>(
+        family: DataFamily,
+        question: Q,
+        count: &mut HeaderCount,
+        buffer: &mut [u8],
+    ) -> Q::Answer {
+        L::layer_ask_data(family, question, count, buffer)
+    }
+
+    fn data_fit_len(value: &InfoDataOf<L>) -> Option<usize> {
+        L::layer_data_fit_len(value)
+    }
+
+    fn write_data(value: &InfoDataOf<L>, buffer: &mut [u8]) -> usize {
+        L::layer_write_data(value, buffer)
+    }
+
+    fn read_port_data(
+        family: PortFamily,
+        alloc: Global,
+        payload: &[u8],
+        count: &mut HeaderCount,
+    ) -> Result<InfoPortDataOf<L>, DecodeError> {
+        L::layer_read_port_data(family, alloc, payload, count)
+    }
+
+    #[inline(always)]
+    fn ask_port_data<Q: Ask>(
+        family: PortFamily,
+        question: Q,
+        count: &mut HeaderCount,
+        buffer: &mut [u8],
+    ) -> Q::Answer {
+        L::layer_ask_port_data(family, question, count, buffer)
+    }
+
+    fn port_data_fit_len(value: &InfoPortDataOf<L>) -> Option<usize> {
+        L::layer_port_data_fit_len(value)
+    }
+
+    fn write_port_data(value: &InfoPortDataOf<L>, buffer: &mut [u8]) -> usize {
+        L::layer_write_port_data(value, buffer)
     }
 }

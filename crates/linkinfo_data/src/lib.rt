@@ -25,7 +25,7 @@ pub use data::{DataFamily, family_of};
 pub use devices::DeviceFamily;
 pub use families::{Plain, PlainFamilies};
 pub use info_data::{InfoData, InfoDataOf};
-pub use layer::DataLayer;
+pub use layer::{DataLayer, LayerCalls, Layered};
 pub use linkinfo_table::{Difference, Unmet};
 pub use lower::LowerFamily;
 pub use payload_family::{

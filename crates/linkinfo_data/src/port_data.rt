@@ -11,7 +11,7 @@ ghost use Rattle.linkinfo_data.specs.PortData.{
 
 use crate::ask::Ask;
 use crate::encode::Encode;
-use crate::layer::DataLayer;
+use crate::layer::{DataLayer, LayerCalls};
 use crate::payload_family::PayloadFamily;
 use linkinfo_devices::InfoVrfPort;
 use linkinfo_numbers::{IFLA_INFO_SLAVE_DATA, InfoPortKind, PortTag};
@@ -121,7 +121,7 @@ impl<P: LinkLayer> InfoPortDataOf<P> {
             (port_family_of (tag_of_port_kind kind.now))).means payload.now) }
     {
         let mut count = HeaderCount::new();
-        P::read_port_data(port_family_of(kind.tag()), alloc, payload, &mut count)
+        P::layer_read_port_data(port_family_of(kind.tag()), alloc, payload, &mut count)
     }
 }
 
@@ -159,7 +159,7 @@ impl<P: LinkLayer> Nla for InfoPortDataOf<P> {
     }
 
     fn emit_payload(&self, buffer: &mut [u8]) -> usize {
-        P::write_port_data(self, buffer)
+        P::layer_write_port_data(self, buffer)
     }
 
     #[tactic(auto, using(nla_frame::proofs::Emitting::whole))]
@@ -168,7 +168,7 @@ impl<P: LinkLayer> Nla for InfoPortDataOf<P> {
     }
 
     fn fit_len(&self) -> Option<usize> {
-        P::port_data_fit_len(self)
+        P::layer_port_data_fit_len(self)
     }
 }
 

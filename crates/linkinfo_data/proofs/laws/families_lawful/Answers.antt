@@ -1,4 +1,4 @@
 use Rattle.linkinfo_data.proofs.laws.families_lawful.Goals as goal
 
 pub returns : goal.returns
-returns g c = g.met.P.DataLayer.lawful
+returns g c = c.lawful.ensures

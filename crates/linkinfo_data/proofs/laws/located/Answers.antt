@@ -2,4 +2,4 @@ use Rattle.linkinfo_data.proofs.Located.{data_located}
 use Rattle.linkinfo_data.proofs.laws.located.Goals as goal
 
 pub returns : goal.returns
-returns g c = data_located g.P.DataLayer.families g.met.P.DataLayer.lawful
+returns g c = data_located g.P.DataLayer.families c.lawful.ensures
