@@ -12,6 +12,7 @@ pub mod Placed
 pub mod Roles
 pub mod Strings
 pub mod TypedLayer
+pub mod TypedTypes
 pub mod Unmet
 pub mod UnmetSteps
 pub mod Walks

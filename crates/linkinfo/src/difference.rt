@@ -12,6 +12,7 @@ use crate::item::same_item;
 use crate::list::check_of;
 use crate::placed::ErrorIn;
 use crate::role::{CurrentKinds, Role, kinds_after, role_of};
+use linkinfo_data::laws::families_lawful;
 use linkinfo_data::{
     DataFamily, DataLayer, Difference, PayloadFamily, PortFamily, family_of, list_difference,
     port_family_of, same_payloads,
@@ -71,6 +72,7 @@ fn first_difference_in<P: DataLayer>(a: &[u8], b: &[u8]) -> Option<Difference>
     requires second { IsOk (reading P.families b.now) }
     ensures { result ≡ strings_difference P.families a.now b.now }
 {
+    families_lawful::<P>();
     let mut count = HeaderCount::new();
     let mut kinds = CurrentKinds::none();
     let mut x = a;

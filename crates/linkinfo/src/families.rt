@@ -3,8 +3,9 @@
 //! numbers and attributes.
 
 // Every family has `ListedFamily`, and every layer `LayerFamilies`: they are for contracts alone,
-// as `PlainFamilies` and `Plain` are. Every layer has `DataLayer` too.
-pub use linkinfo_data::{DataLayer, Plain, PlainFamilies};
+// as `PlainFamilies` and `Plain`, `TypedFamilies` and `OverBytes` are. Every layer has `LayerCalls` too.
+pub use crate::typed_layer::{OverBytes, TypedFamilies};
+pub use linkinfo_data::{DataLayer, LayerCalls, Layered, Plain, PlainFamilies};
 pub use linkinfo_numbers::{KeepsEveryBit, bits_again};
 pub use linkinfo_peers::BitPeer;
 pub use linkinfo_table::{

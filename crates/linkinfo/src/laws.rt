@@ -190,7 +190,9 @@ pub fn equal_walks()
 pub fn differences<P: DataLayer>()
     ensures { (a b : List ℕ) → IsOk (reading P.families a) → IsOk (reading P.families b) →
         (strings_difference P.families a b ≡ None) ↔ (alike_strings P.families a b ≡ true) }
-{}
+{
+    families_lawful::<P>();
+}
 
 /// Each attribute of a list inside an attribute that fits has at most 65531 bytes of payload, and
 /// so has a first attribute inside one. This is so at every level, since these attributes fit in

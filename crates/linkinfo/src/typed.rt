@@ -48,9 +48,10 @@ use crate::difference::first_difference_of;
 use crate::link_info::LinkInfoOf;
 use crate::list::{VecLinkInfoOf, check_of, same_of};
 use crate::placed::{ErrorAt, ErrorIn, check_at_of};
+pub use crate::typed_layer::Typed;
 use crate::unmet::first_unmet_of;
 use linkinfo_data::{Difference, InfoDataOf, InfoPortDataOf, Unmet};
-pub use linkinfo_typed::{InfoVlan, Typed, VlanQosMapping};
+pub use linkinfo_typed::{InfoVlan, VlanQosMapping};
 use nla_frame::{Bytes, DecodeError};
 use std::alloc::Global;
 

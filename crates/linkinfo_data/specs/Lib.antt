@@ -18,6 +18,7 @@ pub mod LowerData
 pub mod Names
 pub mod Payloads
 pub mod PeerData
+pub mod PeerFamilies
 pub mod PeerLayer
 pub mod Plain
 pub mod PortData

@@ -24,10 +24,9 @@ ghost use Rattle.linkinfo_peers.specs.declared.wwan.InfoWwan.{InfoWwan};
 // End: written by tables/generate.
 ghost use Rattle.linkinfo_numbers.specs.declared.tags.KindTag.{KindTag};
 ghost use Rattle.nla_frame.specs.declared.bytes.Bytes.{Bytes};
-ghost use Rattle.linkinfo_table.specs.Layers.{Families};
 ghost use Rattle.linkinfo_table.specs.Members.{Members};
 ghost use Rattle.linkinfo_table.specs.declared.opaque.Opaque.{Opaque};
-ghost use Rattle.linkinfo_data.specs.PeerLayer.{peer_types};
+ghost use Rattle.linkinfo_table.specs.declared.peer.LinkPeer.{Ghosts};
 
 // Begin: written by tables/generate from tables/kinds (device).
 use linkinfo_devices::{
@@ -39,7 +38,10 @@ use linkinfo_devices::{
 use linkinfo_peers::{InfoBatAdv, InfoWwan};
 // End: written by tables/generate.
 use linkinfo_devices::InfoVrfPort;
-use linkinfo_peers::{InfoPfcp, InfoTeamPort, InfoWireguard};
+use linkinfo_peers::{InfoPfcp, InfoTeamPort, InfoTun, InfoWireguard};
+use linkinfo_table::lower::{
+    InfoBond, InfoBondPort, InfoBridge, InfoBridgePort, InfoCan, InfoDsa, InfoHsr, InfoVlan,
+};
 use linkinfo_table::{LayerFamilies, ListedFamily};
 // Begin: written by tables/generate from tables/kinds (tunnel).
 use linkinfo_tunnels::{
@@ -101,7 +103,25 @@ pub trait PlainFamilies {
 
     ghost team_port: { Members (Opaque 9) };
 
-    ghost bytes_families: { Families (peer_types Bytes) };
+    ghost bond: { Members (Opaque 1) };
+
+    ghost bond_port: { Members (Opaque 2) };
+
+    ghost bridge: { Members (Opaque 3) };
+
+    ghost bridge_port: { Members (Opaque 4) };
+
+    ghost can: { Members (Opaque 5) };
+
+    ghost dsa: { Members (Opaque 6) };
+
+    ghost hsr: { Members (Opaque 7) };
+
+    ghost tun: { Members (Opaque 10) };
+
+    ghost vlan: { Members (Opaque 11) };
+
+    ghost bytes_peer: { Ghosts Bytes };
 }
 
 /// The type that implements `PlainFamilies`. Only specifications name it: no call takes or returns
@@ -159,5 +179,23 @@ impl PlainFamilies for Plain {
 
     ghost team_port = { ⟦<InfoTeamPort as ListedFamily>⟧.members tt };
 
-    ghost bytes_families = { ⟦<Bytes as LayerFamilies>⟧.families };
+    ghost bond = { ⟦<InfoBond as ListedFamily>⟧.members tt };
+
+    ghost bond_port = { ⟦<InfoBondPort as ListedFamily>⟧.members tt };
+
+    ghost bridge = { ⟦<InfoBridge as ListedFamily>⟧.members tt };
+
+    ghost bridge_port = { ⟦<InfoBridgePort as ListedFamily>⟧.members tt };
+
+    ghost can = { ⟦<InfoCan as ListedFamily>⟧.members tt };
+
+    ghost dsa = { ⟦<InfoDsa as ListedFamily>⟧.members tt };
+
+    ghost hsr = { ⟦<InfoHsr as ListedFamily>⟧.members tt };
+
+    ghost tun = { ⟦<InfoTun as ListedFamily>⟧.members tt };
+
+    ghost vlan = { ⟦<InfoVlan as ListedFamily>⟧.members tt };
+
+    ghost bytes_peer = { ⟦<Bytes as LayerFamilies>⟧.families.peer };
 }

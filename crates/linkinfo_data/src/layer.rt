@@ -307,17 +307,18 @@ impl<L: LinkLayer> LayerCalls for L {
 impl<P: LinkPeer> DataLayer for P {
     ghost use Rattle.linkinfo_data.specs.Data.{data_known};
     ghost use Rattle.linkinfo_data.specs.DataFamilies.{data_families};
+    ghost use Rattle.linkinfo_data.specs.PeerFamilies.{peer_families};
     ghost use Rattle.linkinfo_data.specs.PortData.{port_known};
 
     type Data = InfoDataOf<P>;
 
     type PortData = InfoPortDataOf<P>;
 
-    ghost families = { data_families ⟦<P as LayerFamilies>⟧.families };
+    ghost families = { data_families (peer_families P.LinkPeer.own) };
 
-    ghost data_known = { data_known ⟦<P as LayerFamilies>⟧.families };
+    ghost data_known = { data_known (peer_families P.LinkPeer.own) };
 
-    ghost port_data_known = { port_known ⟦<P as LayerFamilies>⟧.families };
+    ghost port_data_known = { port_known (peer_families P.LinkPeer.own) };
 
     fn lawful() {
         families_lawful_by::<P>();

@@ -7,7 +7,5 @@ pub mod Vlan
 pub mod VlanConditions
 -- End: written by tables/generate.
 pub mod Conditions
-pub mod TypedLayer
-pub mod TypedTypes
 pub mod NestedLists
 pub mod PayloadRows

@@ -9,12 +9,9 @@ mod vlan;
 // End: written by tables/generate.
 
 pub mod laws;
-mod layer;
 
 // Begin: written by tables/generate from tables/families (types).
 pub use bond::InfoBond;
 pub use qos::VlanQosMapping;
 pub use vlan::InfoVlan;
 // End: written by tables/generate.
-
-pub use layer::{OverBytes, Typed, TypedFamilies};

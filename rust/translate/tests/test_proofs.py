@@ -137,6 +137,14 @@ class LawsTest(RuleTest):
             {"lib.rt": "pub mod code; pub use code::f;", "code.rt": "pub fn f() -> u8 { 1 }"},
         )
 
+    def test_law_of_a_trait(self):
+        text = ("pub trait T { fn f(); fn g(&self) -> u8; } "
+                "impl T for u8 { fn f() { h(); } fn g(&self) -> u8 { 1 } } "
+                "fn h() {} fn i<A: T>(a: &A) -> u8 { A::f(); a.g() }")
+        kept = ("pub trait T { fn g(&self) -> u8; } impl T for u8 { fn g(&self) -> u8 { 1 } } "
+                "fn i<A: T>(a: &A) -> u8 { a.g() }")
+        self.assertEqual(self.written(code=text)["code.rt"].split(), kept.split())
+
     def test_what_is_no_law(self):
         text = (
             "fn f(a: &mut u8) {} fn g() { h(); } fn h() -> u8 { 1 } impl A { fn i() {} } fn "

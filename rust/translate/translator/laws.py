@@ -4,6 +4,9 @@ A law is a function outside `impl` and `trait`, without a result and without a `
 Its body is empty, or has only calls of laws, or of a getter of a shared reference that it was
 given. So a call of it changes nothing, and what it computes is dropped. The arguments of a call
 only name values, which is checked.
+
+A law of a trait is a function that it declares without parameters, result and body. Its name is
+that of no other function.
 """
 
 from .items import free_words, function_parts
@@ -74,6 +77,15 @@ def candidates(source):
             yield index, body, paths
 
 
+def methods(source):
+    """The indices of `fn` of functions of traits and types without parameters and result."""
+    free = set(free_words(source))
+    for index in source.words():
+        if source.at(index) == "fn" and index not in free and source.reads(index + 2, "(", ")"):
+            if source.at(index + 4) in (";", "{"):
+                yield index
+
+
 def stem(file):
     """The name of the module that a file is."""
     return file.removesuffix(".rt").split("/")[-1]
@@ -88,7 +100,12 @@ class Laws:
         self.others = set(earlier.others) if earlier else set()
         self.gone = set(earlier.gone) if earlier else set()
         self.aliases = dict(earlier.aliases) if earlier else {}
+        self.methods = set(earlier.methods) if earlier else set()
         files = [(c.name, file, source) for c in crates for file, source in c.sources.items()]
+        self.methods |= {
+            source.at(index + 1) for _, _, source in files for index in methods(source)
+            if source.at(index + 4) == ";"
+        }
         for _, _, source in files:
             self.note_aliases(source)
         found = {
@@ -126,6 +143,8 @@ class Laws:
 
     def is_law(self, path):
         """Whether a call by this path is that of a law."""
+        if len(path) > 1 and path[-1] in self.methods:
+            return True
         for name in self.names(path[-1]):
             if name not in self.modules:
                 continue

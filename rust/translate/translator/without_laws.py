@@ -2,7 +2,7 @@
 
 from . import imports
 from .items import free_words, function_parts, item_front
-from .laws import DOES, call_at, stem
+from .laws import DOES, call_at, methods, stem
 
 
 def delete_laws(crate, file, laws):
@@ -13,6 +13,11 @@ def delete_laws(crate, file, laws):
             start = item_front(source, index)
             _, body = function_parts(source, index)
             source.delete(start, source.close(body) + 1, "law")
+    for index in methods(source):
+        if source.at(index + 1) not in laws.methods:
+            continue
+        end = index + 5 if source.at(index + 4) == ";" else source.close(index + 4) + 1
+        source.delete(item_front(source, index), end, "law")
     source.refresh()
     index = 0
     while index < len(source.kept):

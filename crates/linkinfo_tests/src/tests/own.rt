@@ -2,6 +2,7 @@
 
 use super::assertions::{assert_emitted, assert_equal, assert_parses, bytes_of, nlas};
 use crate::{AnyLayer, AnyPeer};
+use linkinfo::families::Layered;
 use linkinfo::{
     Cause, DecodeError, Family, InfoDataOf, InfoKind, InfoVethOf, InfoXfrm, LinkInfoOf,
     VecLinkInfoOf, check, check_of, same_of,
@@ -50,7 +51,7 @@ fn custom_layer(rt: HostRuntime) {
     let alloc = rt.alloc();
     let data = InfoDataOf::Vlan(nlas(&rt, alloc, [InfoXfrm::IfId(5)]));
     let items = [LinkInfoOf::Kind(InfoKind::Vlan), LinkInfoOf::Data(data)];
-    let list: VecLinkInfoOf<AnyLayer> = VecLinkInfoOf(nlas(&rt, alloc, items));
+    let list: VecLinkInfoOf<Layered<AnyLayer>> = VecLinkInfoOf(nlas(&rt, alloc, items));
     let [plain, flagged, short] = VLANS;
     let plain = bytes_of(&rt, alloc, plain);
     let flagged = bytes_of(&rt, alloc, flagged);
@@ -58,13 +59,13 @@ fn custom_layer(rt: HostRuntime) {
     assert_parses(
         &rt,
         &"flagged",
-        VecLinkInfoOf::<AnyLayer>::parse(alloc, &flagged),
+        VecLinkInfoOf::<Layered<AnyLayer>>::parse(alloc, &flagged),
         &list,
     );
     assert_equal(
         &rt,
         &"both",
-        &same_of::<AnyLayer>(&plain, &flagged),
+        &same_of::<Layered<AnyLayer>>(&plain, &flagged),
         &Ok(true),
     );
     assert_emitted(&rt, alloc, list.as_slice(), &plain);
@@ -74,6 +75,11 @@ fn custom_layer(rt: HostRuntime) {
         kind: 2,
         cause: Cause::Length,
     };
-    assert_equal(&rt, &"short", &check_of::<AnyLayer>(&short), &Err(error));
+    assert_equal(
+        &rt,
+        &"short",
+        &check_of::<Layered<AnyLayer>>(&short),
+        &Err(error),
+    );
     assert_equal(&rt, &"opaque", &check(&short), &Ok(()));
 }

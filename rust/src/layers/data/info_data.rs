@@ -4,7 +4,7 @@
 
 use crate::layers::data::data::family_of;
 use crate::layers::data::encode::Encode;
-use crate::layers::data::layer::DataLayer;
+use crate::layers::data::layer::LayerCalls;
 // Begin: written by tables/generate from tables/kinds (device).
 use crate::layers::devices::{
     InfoIpVlan, InfoIpVtap, InfoIpoib, InfoMacSec, InfoMacVlan, InfoMacVtap, InfoRmNet, InfoVrf,
@@ -127,7 +127,7 @@ impl<P: LinkLayer> InfoDataOf<P> {
     /// [`InfoKind::Other`]: crate::layers::numbers::InfoKind::Other
     pub fn parse_with_param(payload: &[u8], kind: &InfoKind) -> Result<InfoDataOf<P>, DecodeError> {
         let mut count = HeaderCount::new();
-        P::read_data(family_of(kind.tag()), payload, &mut count)
+        P::layer_read_data(family_of(kind.tag()), payload, &mut count)
     }
 }
 
@@ -193,7 +193,7 @@ impl<P: LinkLayer> Nla for InfoDataOf<P> {
 
     #[inline]
     fn emit_payload(&self, buffer: &mut [u8]) -> usize {
-        P::write_data(self, buffer)
+        P::layer_write_data(self, buffer)
     }
 
     #[inline]
@@ -203,7 +203,7 @@ impl<P: LinkLayer> Nla for InfoDataOf<P> {
 
     #[inline]
     fn fit_len(&self) -> Option<usize> {
-        P::data_fit_len(self)
+        P::layer_data_fit_len(self)
     }
 }
 

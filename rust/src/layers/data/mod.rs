@@ -26,7 +26,7 @@ pub use data::{DataFamily, family_of};
 pub use devices::DeviceFamily;
 pub use families::{Plain, PlainFamilies};
 pub use info_data::{InfoData, InfoDataOf};
-pub use layer::DataLayer;
+pub use layer::{DataLayer, LayerCalls, Layered};
 pub use lower::LowerFamily;
 pub use payload_family::{
     PayloadFamily, check_payload, list_difference, list_error, list_unmet, measure_payload,

@@ -4,7 +4,7 @@
 
 use crate::layers::data::ask::Ask;
 use crate::layers::data::encode::Encode;
-use crate::layers::data::layer::DataLayer;
+use crate::layers::data::layer::{DataLayer, LayerCalls};
 use crate::layers::data::payload_family::PayloadFamily;
 use crate::layers::devices::InfoVrfPort;
 use crate::layers::nla_frame::{Bytes, DecodeError, ExactEq, HeaderCount, Nla, Nlas};
@@ -92,7 +92,7 @@ impl<P: LinkLayer> InfoPortDataOf<P> {
         kind: &InfoPortKind,
     ) -> Result<InfoPortDataOf<P>, DecodeError> {
         let mut count = HeaderCount::new();
-        P::read_port_data(port_family_of(kind.tag()), payload, &mut count)
+        P::layer_read_port_data(port_family_of(kind.tag()), payload, &mut count)
     }
 }
 
@@ -124,7 +124,7 @@ impl<P: LinkLayer> Nla for InfoPortDataOf<P> {
 
     #[inline]
     fn emit_payload(&self, buffer: &mut [u8]) -> usize {
-        P::write_port_data(self, buffer)
+        P::layer_write_port_data(self, buffer)
     }
 
     #[inline]
@@ -134,7 +134,7 @@ impl<P: LinkLayer> Nla for InfoPortDataOf<P> {
 
     #[inline]
     fn fit_len(&self) -> Option<usize> {
-        P::port_data_fit_len(self)
+        P::layer_port_data_fit_len(self)
     }
 }
 

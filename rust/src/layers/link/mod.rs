@@ -18,6 +18,7 @@ mod list;
 mod placed;
 mod role;
 pub mod typed;
+mod typed_layer;
 mod unmet;
 mod walk;
 mod xstats;

@@ -29,9 +29,10 @@ use crate::layers::link::difference::first_difference_of;
 use crate::layers::link::link_info::LinkInfoOf;
 use crate::layers::link::list::{VecLinkInfoOf, check_of, same_of};
 use crate::layers::link::placed::{ErrorAt, ErrorIn, check_at_of};
+pub use crate::layers::link::typed_layer::Typed;
 use crate::layers::link::unmet::first_unmet_of;
 use crate::layers::nla_frame::{Bytes, DecodeError};
-pub use crate::layers::typed::{InfoVlan, Typed, VlanQosMapping};
+pub use crate::layers::typed::{InfoVlan, VlanQosMapping};
 use alloc::vec::Vec;
 
 /// The contents of `IFLA_LINKINFO`, over the typed layer, with peers kept as bytes.

@@ -9,12 +9,8 @@ mod qos;
 mod vlan;
 // End: written by tables/generate.
 
-mod layer;
-
 // Begin: written by tables/generate from tables/families (types).
 pub use bond::InfoBond;
 pub use qos::VlanQosMapping;
 pub use vlan::InfoVlan;
 // End: written by tables/generate.
-
-pub use layer::{OverBytes, Typed, TypedFamilies};

@@ -4,6 +4,7 @@
 
 use super::assertions::{assert_emitted, assert_equal, assert_parses, bytes_of, nlas};
 use crate::{AnyLayer, AnyPeer};
+use linkinfo::layers::link::families::Layered;
 use linkinfo::layers::link::{
     Cause, DecodeError, Family, InfoDataOf, InfoKind, InfoVethOf, InfoXfrm, LinkInfoOf,
     VecLinkInfoOf, check, check_of, same_of,
@@ -48,17 +49,21 @@ const VLANS: [&str; 3] = [
 fn custom_layer() {
     let data = InfoDataOf::Vlan(nlas([InfoXfrm::IfId(5)]));
     let items = [LinkInfoOf::Kind(InfoKind::Vlan), LinkInfoOf::Data(data)];
-    let list: VecLinkInfoOf<AnyLayer> = VecLinkInfoOf(nlas(items));
+    let list: VecLinkInfoOf<Layered<AnyLayer>> = VecLinkInfoOf(nlas(items));
     let [plain, flagged, short] = VLANS;
     let plain = bytes_of(plain);
     let flagged = bytes_of(flagged);
     let short = bytes_of(short);
     assert_parses(
         &"flagged",
-        VecLinkInfoOf::<AnyLayer>::parse(&flagged),
+        VecLinkInfoOf::<Layered<AnyLayer>>::parse(&flagged),
         &list,
     );
-    assert_equal(&"both", &same_of::<AnyLayer>(&plain, &flagged), &Ok(true));
+    assert_equal(
+        &"both",
+        &same_of::<Layered<AnyLayer>>(&plain, &flagged),
+        &Ok(true),
+    );
     assert_emitted(list.as_slice(), &plain);
     // An error names the family that the layer supplies; opaque families accept every payload.
     let error = DecodeError {
@@ -66,6 +71,10 @@ fn custom_layer() {
         kind: 2,
         cause: Cause::Length,
     };
-    assert_equal(&"short", &check_of::<AnyLayer>(&short), &Err(error));
+    assert_equal(
+        &"short",
+        &check_of::<Layered<AnyLayer>>(&short),
+        &Err(error),
+    );
     assert_equal(&"opaque", &check(&short), &Ok(()));
 }

@@ -78,7 +78,7 @@ loop-nla-preserved g c =
     let difference = c.role_difference-difference in
     let none = no_difference difference.result (sym c.if-is_some.ensures) in
     let alike =
-    pair_alike layer g.met.P.DataLayer.lawful c.role_of-role.result p q
+    pair_alike layer c.families_lawful.ensures c.role_of-role.result p q
     difference.result types pair.first
     (pair.second types) difference.ensures none in
     let kinds =

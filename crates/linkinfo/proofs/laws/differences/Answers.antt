@@ -5,4 +5,4 @@ use Rattle.linkinfo.proofs.laws.differences.Goals as goal
 pub returns : goal.returns
 returns g c a b first second =
     none_where _ _
-    (strings_none g.P.DataLayer.families g.met.P.DataLayer.lawful a b first second)
+    (strings_none g.P.DataLayer.families c.families_lawful.ensures a b first second)

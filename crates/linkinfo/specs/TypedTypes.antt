@@ -1,7 +1,7 @@
 -- The typed layer over peers of a type.
 use Rattle.linkinfo_table.specs.Layers.{Types}
 use Rattle.linkinfo_table.specs.declared.opaque.Opaque.{Opaque}
-use Rattle.linkinfo_typed.specs.declared.layer.Typed.{Typed}
+use Rattle.linkinfo.specs.declared.typed_layer.Typed.{Typed}
 use Rattle.linkinfo_typed.specs.declared.vlan.InfoVlan.{InfoVlan}
 
 -- the types that it supplies

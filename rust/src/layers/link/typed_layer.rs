@@ -1,0 +1,115 @@
+// @generated from crates/linkinfo/src/typed_layer.rt by rust/translate/run.
+
+//! The layer whose families have types.
+
+use crate::layers::data::{
+    Ask, DataFamily, DataLayer, InfoDataOf, InfoPortDataOf, LayerCalls, PortFamily,
+};
+use crate::layers::nla_frame::{DecodeError, HeaderCount};
+use crate::layers::table::lower::{
+    InfoBond, InfoBondPort, InfoBridge, InfoBridgePort, InfoCan, InfoDsa, InfoHsr,
+};
+use crate::layers::table::opaque::TUN;
+use crate::layers::table::{LinkLayer, LinkPeer, Opaque};
+use crate::layers::typed::InfoVlan;
+use core::marker::PhantomData;
+
+/// The layer whose peers are `P`, and whose attributes of `vlan` links have types. Those of `bond`,
+/// `bridge`, `can`, `hsr`, `dsa` and `tun` links, and of ports of bonds and bridges, are opaque.
+///
+/// A list of links with such attributes is `VecLinkInfoOf<Typed<Bytes>>`.
+#[derive(Clone, Debug, PartialEq, Eq, Hash, PartialOrd, Ord)]
+pub struct Typed<P> {
+    of: PhantomData<P>,
+}
+
+impl<P: LinkPeer> LinkLayer for Typed<P> {
+    type Peer = P;
+
+    type Bond = InfoBond;
+
+    type Bridge = InfoBridge;
+
+    type Vlan = InfoVlan;
+
+    type Can = InfoCan;
+
+    type Hsr = InfoHsr;
+
+    type Dsa = InfoDsa;
+
+    type Tun = Opaque<TUN>;
+
+    type BondPort = InfoBondPort;
+
+    type BridgePort = InfoBridgePort;
+}
+
+impl<P: LinkPeer> DataLayer for Typed<P> {
+    type Data = InfoDataOf<Typed<P>>;
+
+    type PortData = InfoPortDataOf<Typed<P>>;
+
+    fn read_data(
+        family: DataFamily,
+        payload: &[u8],
+        count: &mut HeaderCount,
+    ) -> Result<InfoDataOf<Typed<P>>, DecodeError> {
+        Typed::<P>::layer_read_data(family, payload, count)
+    }
+
+    #[inline(always)]
+    fn ask_data<Q: Ask>(
+        family: DataFamily,
+        question: Q,
+        count: &mut HeaderCount,
+        buffer: &mut [u8],
+    ) -> Q::Answer {
+        Typed::<P>::layer_ask_data(family, question, count, buffer)
+    }
+
+    fn data_fit_len(value: &InfoDataOf<Typed<P>>) -> Option<usize> {
+        Typed::<P>::layer_data_fit_len(value)
+    }
+
+    fn write_data(value: &InfoDataOf<Typed<P>>, buffer: &mut [u8]) -> usize {
+        Typed::<P>::layer_write_data(value, buffer)
+    }
+
+    fn read_port_data(
+        family: PortFamily,
+        payload: &[u8],
+        count: &mut HeaderCount,
+    ) -> Result<InfoPortDataOf<Typed<P>>, DecodeError> {
+        Typed::<P>::layer_read_port_data(family, payload, count)
+    }
+
+    #[inline(always)]
+    fn ask_port_data<Q: Ask>(
+        family: PortFamily,
+        question: Q,
+        count: &mut HeaderCount,
+        buffer: &mut [u8],
+    ) -> Q::Answer {
+        Typed::<P>::layer_ask_port_data(family, question, count, buffer)
+    }
+
+    fn port_data_fit_len(value: &InfoPortDataOf<Typed<P>>) -> Option<usize> {
+        Typed::<P>::layer_port_data_fit_len(value)
+    }
+
+    fn write_port_data(value: &InfoPortDataOf<Typed<P>>, buffer: &mut [u8]) -> usize {
+        Typed::<P>::layer_write_port_data(value, buffer)
+    }
+}
+
+/// What the typed layer over peers that are kept as bytes defines.
+#[doc(hidden)]
+pub trait TypedFamilies {}
+
+/// The type that implements `TypedFamilies`. Only specifications name it: no call takes or returns
+/// it.
+#[doc(hidden)]
+pub struct OverBytes;
+
+impl TypedFamilies for OverBytes {}
