@@ -1,8 +1,11 @@
 -- The typed layer over peers of a type.
-use Rattle.linkinfo_table.specs.Layers.{Types}
+use Rattle.linkinfo_table.specs.Layers.{Families, Types}
 use Rattle.linkinfo_table.specs.declared.opaque.Opaque.{Opaque}
-use Rattle.linkinfo.specs.declared.typed_layer.Typed.{Typed}
+use Rattle.linkinfo_table.specs.declared.peer.LinkPeer.{Ghosts}
+use Rattle.linkinfo_data.specs.Plain.{plain}
 use Rattle.linkinfo_typed.specs.declared.vlan.InfoVlan.{InfoVlan}
+use Rattle.linkinfo.specs.contracts.typed_layer.TypedRowsTypedFamilies.TheImpl.{ghosts}
+use Rattle.linkinfo.specs.declared.typed_layer.Typed.{Typed}
 
 -- the types that it supplies
 abbrev pub typed_types : Type 0 → Types
@@ -18,4 +21,19 @@ typed_types P = record {
   Tun = Opaque 10;
   BondPort = Opaque 2;
   BridgePort = Opaque 4;
+}
+
+-- what it defines: what the peer defines, the rows of vlan, and opaque families
+abbrev pub typed_families : {P : Type 0} → Ghosts P → Families (typed_types P)
+typed_families own = record {
+  peer = own;
+  bond = plain.bond;
+  bridge = plain.bridge;
+  vlan = ghosts.vlan;
+  can = plain.can;
+  hsr = plain.hsr;
+  dsa = plain.dsa;
+  tun = plain.tun;
+  bond_port = plain.bond_port;
+  bridge_port = plain.bridge_port;
 }

@@ -1,8 +1,7 @@
 //! The layer whose families have types.
 
-ghost use Rattle.linkinfo_table.specs.Layers.{Families};
-ghost use Rattle.linkinfo.specs.TypedTypes.{typed_types};
-ghost use Rattle.nla_frame.specs.declared.bytes.Bytes.{Bytes};
+ghost use Rattle.linkinfo_table.specs.Members.{Members};
+ghost use Rattle.linkinfo_typed.specs.declared.vlan.InfoVlan.{InfoVlan};
 
 use linkinfo_data::laws::families_lawful_by;
 use linkinfo_data::{
@@ -12,9 +11,9 @@ use linkinfo_table::lower::{
     InfoBond, InfoBondPort, InfoBridge, InfoBridgePort, InfoCan, InfoDsa, InfoHsr,
 };
 use linkinfo_table::opaque::TUN;
-use linkinfo_table::{LayerFamilies, LinkLayer, LinkPeer, Opaque};
+use linkinfo_table::{LinkLayer, LinkPeer, ListedFamily, Opaque};
 use linkinfo_typed::InfoVlan;
-use nla_frame::{Bytes, DecodeError, HeaderCount};
+use nla_frame::{DecodeError, HeaderCount};
 use std::alloc::Global;
 use std::marker::PhantomData;
 
@@ -54,16 +53,17 @@ impl<P: LinkPeer> DataLayer for Typed<P> {
     ghost use Rattle.linkinfo_data.specs.Data.{data_known};
     ghost use Rattle.linkinfo_data.specs.DataFamilies.{data_families};
     ghost use Rattle.linkinfo_data.specs.PortData.{port_known};
+    ghost use Rattle.linkinfo.specs.TypedTypes.{typed_families};
 
     type Data = InfoDataOf<Typed<P>>;
 
     type PortData = InfoPortDataOf<Typed<P>>;
 
-    ghost families = { data_families ⟦<Typed<P> as LayerFamilies>⟧.families };
+    ghost families = { data_families (typed_families P.LinkPeer.own) };
 
-    ghost data_known = { data_known ⟦<Typed<P> as LayerFamilies>⟧.families };
+    ghost data_known = { data_known (typed_families P.LinkPeer.own) };
 
-    ghost port_data_known = { port_known ⟦<Typed<P> as LayerFamilies>⟧.families };
+    ghost port_data_known = { port_known (typed_families P.LinkPeer.own) };
 
     fn lawful() {
         families_lawful_by::<Typed<P>>();
@@ -124,15 +124,16 @@ impl<P: LinkPeer> DataLayer for Typed<P> {
     }
 }
 
-/// What the typed layer over peers that are kept as bytes defines.
+/// The specification of the attributes of each family that the typed layer has in place of an opaque
+/// one.
 pub trait TypedFamilies {
-    ghost typed_families: { Families (typed_types Bytes) };
+    ghost vlan: { Members InfoVlan };
 }
 
 /// The type that implements `TypedFamilies`. Only specifications name it: no call takes or returns
 /// it.
-pub struct OverBytes;
+pub struct TypedRows;
 
-impl TypedFamilies for OverBytes {
-    ghost typed_families = { ⟦<Typed<Bytes> as LayerFamilies>⟧.families };
+impl TypedFamilies for TypedRows {
+    ghost vlan = { ⟦<InfoVlan as ListedFamily>⟧.members tt };
 }

@@ -2,7 +2,7 @@
 
 from .items import item_front
 
-NAMES = ("ListedFamily", "OverBytes", "Plain", "PlainFamilies", "TypedFamilies")
+NAMES = ("ListedFamily", "Plain", "PlainFamilies", "TypedFamilies", "TypedRows")
 DEFINING = ("struct", "trait")
 
 

@@ -103,13 +103,14 @@ impl<P: LinkPeer> DataLayer for Typed<P> {
     }
 }
 
-/// What the typed layer over peers that are kept as bytes defines.
+/// The specification of the attributes of each family that the typed layer has in place of an
+/// opaque one.
 #[doc(hidden)]
 pub trait TypedFamilies {}
 
 /// The type that implements `TypedFamilies`. Only specifications name it: no call takes or returns
 /// it.
 #[doc(hidden)]
-pub struct OverBytes;
+pub struct TypedRows;
 
-impl TypedFamilies for OverBytes {}
+impl TypedFamilies for TypedRows {}
