@@ -11,8 +11,8 @@ pub use linkinfo_peers::BitPeer;
 pub use linkinfo_table::{
     CustomRows, Datum, Decoded, Encodable, LayerFamilies, LinkFamily, LinkLayer, LinkPayload,
     LinkPeer, ListedFamily, Lookup, Opaque, PayloadRow, PeerFault, RowFamily, Shape, Slot,
-    TableFamily, datum_len, encodable_by_rows, encodables, first_check, first_measure, first_read,
-    first_same, first_write_canonical, list_check, list_measure, list_read, list_same,
+    Supplied, TableFamily, datum_len, encodable_by_rows, encodables, first_check, first_measure,
+    first_read, first_same, first_write_canonical, list_check, list_measure, list_read, list_same,
     list_write_canonical, opaque, read_datum, row_canonical_len, row_check, row_emit_payload,
     row_emit_value, row_fit_len, row_kind, row_read, row_same, row_store, row_value_len,
     row_write_canonical, shape_canonical_len, shape_check, shape_same, shape_write_attribute,

@@ -86,7 +86,7 @@ use linkinfo_data::DataLayer;
 use linkinfo_data::laws::{
     families_lawful, well_formed as data_well_formed, well_formed_by as data_well_formed_by,
 };
-use linkinfo_table::{LayerFamilies, LinkLayer, LinkPeer};
+use linkinfo_table::{LayerFamilies, LinkPeer};
 use nla_frame::ExactEq;
 
 /// What a byte string means. Each attribute in it means a value, under the current kinds before it,
@@ -149,19 +149,19 @@ pub fn equal_items()
 ///
 /// A value of that time is converted by `InfoData::parse_with_param`, on its payload and
 /// `InfoKind::Pfcp`.
-pub fn pfcp<P: LinkLayer>(bytes: &[u8])
+pub fn pfcp<P: LayerFamilies>(bytes: &[u8])
     ensures kind { (r : Role) → (is_pfcp_data r ≡ true) ↔ (r ≡ role.Data tag.Pfcp) }
-    ensures bytes { let layer = data_families ⟦<P as LayerFamilies>⟧.families in
+    ensures bytes { let layer = data_families P.families in
         (t : CurrentKinds) (a : Attribute) → role_at t a ≡ role.Data tag.Pfcp →
         meaning_before layer t a ≡ Ok (info.Data (data_of.Other a.value)) }
-    ensures accepted { let layer = data_families ⟦<P as LayerFamilies>⟧.families in
+    ensures accepted { let layer = data_families P.families in
         IsOk (reading layer bytes.now) → IsOk (reading_before layer bytes.now) }
-    ensures elsewhere { let layer = data_families ⟦<P as LayerFamilies>⟧.families in
+    ensures elsewhere { let layer = data_families P.families in
         HasNoPfcpData bytes.now → reading layer bytes.now ≡ reading_before layer bytes.now }
-    ensures alike { let layer = data_families ⟦<P as LayerFamilies>⟧.families in
+    ensures alike { let layer = data_families P.families in
         HasNoPfcpData bytes.now → (other : List ℕ) →
         alike_strings layer bytes.now other ≡ alike_strings_before layer bytes.now other }
-    ensures alike_to { let layer = data_families ⟦<P as LayerFamilies>⟧.families in
+    ensures alike_to { let layer = data_families P.families in
         HasNoPfcpData bytes.now → (other : List ℕ) →
         alike_strings layer other bytes.now ≡ alike_strings_before layer other bytes.now }
 {}

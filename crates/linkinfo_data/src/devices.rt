@@ -13,7 +13,7 @@ use linkinfo_devices::{
     InfoXfrm,
 };
 // End: written by tables/generate.
-use linkinfo_table::{LayerFamilies, LinkLayer};
+use linkinfo_table::{LayerFamilies, LinkLayer, Supplied};
 use nla_frame::{DecodeError, ExactEq, HeaderCount};
 use std::alloc::Global;
 
@@ -70,7 +70,18 @@ macro_rules! of_device {
     };
 }
 
-impl<P: LinkLayer> PayloadFamily<P> for DeviceFamily {
+impl<P: LinkLayer> PayloadFamily<P> for DeviceFamily
+where
+    P::Bond: Supplied,
+    P::Bridge: Supplied,
+    P::Vlan: Supplied,
+    P::Can: Supplied,
+    P::Hsr: Supplied,
+    P::Dsa: Supplied,
+    P::Tun: Supplied,
+    P::BondPort: Supplied,
+    P::BridgePort: Supplied,
+{
     type Data = InfoDataOf<P>;
 
     ghost data_of = { λ family. devices_data_of (types_of ⟦<P as LayerFamilies>⟧.families) family };

@@ -20,7 +20,7 @@ use linkinfo_peers::{
     InfoBatAdv, InfoNetkitOf, InfoPfcp, InfoVethOf, InfoVxcanOf, InfoWireguard, InfoWwan,
 };
 // End: written by tables/generate.
-use linkinfo_table::{LayerFamilies, LinkLayer};
+use linkinfo_table::{LayerFamilies, LinkLayer, Supplied};
 // Begin: written by tables/generate from tables/kinds (tunnel).
 use linkinfo_tunnels::{
     InfoAmt, InfoBareUdp, InfoGeneve, InfoGre, InfoGre6, InfoGtp, InfoIpTunnel, InfoVti, InfoVxlan,
@@ -115,7 +115,18 @@ pub enum InfoDataOf<P: LinkLayer> {
 /// The data of a link (`IFLA_INFO_DATA`), with peers kept as bytes, and opaque families.
 pub type InfoData = InfoDataOf<Bytes>;
 
-impl<P: LinkLayer> InfoDataOf<P> {
+impl<P: LinkLayer> InfoDataOf<P>
+where
+    P::Bond: Supplied,
+    P::Bridge: Supplied,
+    P::Vlan: Supplied,
+    P::Can: Supplied,
+    P::Hsr: Supplied,
+    P::Dsa: Supplied,
+    P::Tun: Supplied,
+    P::BondPort: Supplied,
+    P::BridgePort: Supplied,
+{
     /// Parses the payload of `IFLA_INFO_DATA` of a link of this kind.
     ///
     /// The result holds the attributes of the kind's family, or the bytes if the kind has none.
@@ -143,7 +154,18 @@ impl<P: LinkLayer> InfoDataOf<P> {
     }
 }
 
-impl<P: LinkLayer> InfoDataOf<P> {
+impl<P: LinkLayer> InfoDataOf<P>
+where
+    P::Bond: Supplied,
+    P::Bridge: Supplied,
+    P::Vlan: Supplied,
+    P::Can: Supplied,
+    P::Hsr: Supplied,
+    P::Dsa: Supplied,
+    P::Tun: Supplied,
+    P::BondPort: Supplied,
+    P::BridgePort: Supplied,
+{
     /// Encodes the data: the encodings of the attributes, one after another, or the bytes.
     #[tactic(auto, unfolding(crate::specs::InfoData::data_payload))]
     pub(crate) fn encode<E: Encode>(&self, encode: E, buffer: &mut [u8]) -> E::Answer
@@ -197,7 +219,18 @@ impl<P: LinkLayer> InfoDataOf<P> {
 
 /// Written as an attribute of type 2 (`IFLA_INFO_DATA`). The payload is the encodings of the
 /// attributes, one after another.
-impl<P: LinkLayer> Nla for InfoDataOf<P> {
+impl<P: LinkLayer> Nla for InfoDataOf<P>
+where
+    P::Bond: Supplied,
+    P::Bridge: Supplied,
+    P::Vlan: Supplied,
+    P::Can: Supplied,
+    P::Hsr: Supplied,
+    P::Dsa: Supplied,
+    P::Tun: Supplied,
+    P::BondPort: Supplied,
+    P::BridgePort: Supplied,
+{
     ghost use Rattle.linkinfo_data.specs.InfoData.{data_attribute};
 
     ghost attribute = { data_attribute ⟦<P as LayerFamilies>⟧.families };
@@ -224,7 +257,18 @@ impl<P: LinkLayer> Nla for InfoDataOf<P> {
     }
 }
 
-impl<P: LinkLayer> ExactEq for InfoDataOf<P> {
+impl<P: LinkLayer> ExactEq for InfoDataOf<P>
+where
+    P::Bond: ExactEq + Eq,
+    P::Bridge: ExactEq + Eq,
+    P::Vlan: ExactEq + Eq,
+    P::Can: ExactEq + Eq,
+    P::Hsr: ExactEq + Eq,
+    P::Dsa: ExactEq + Eq,
+    P::Tun: ExactEq + Eq,
+    P::BondPort: ExactEq + Eq,
+    P::BridgePort: ExactEq + Eq,
+{
     ghost use Rattle.std.specs.Cmp.Lexicographic.{bytes_decides, pointwise_decides};
     ghost use Rattle.std.proofs.Common.{rules};
     ghost use Rattle.nla_frame.specs.Derived.{one_field};

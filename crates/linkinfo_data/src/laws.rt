@@ -13,7 +13,7 @@ ghost use Rattle.linkinfo_data.specs.Names.{AreNamed, AreNamedAfter};
 
 use crate::layer::DataLayer;
 use linkinfo_table::layer_laws::lawful;
-use linkinfo_table::{LayerFamilies, LinkLayer, LinkPeer};
+use linkinfo_table::{LayerFamilies, LinkLayer, LinkPeer, Supplied};
 
 /// Data and port data of each family are lawful: by the laws of the rows of the family, or by those
 /// of the layer that supplies it.
@@ -25,6 +25,16 @@ pub fn families_lawful<P: DataLayer>()
 
 /// The same by the families that a layer supplies.
 pub fn families_lawful_by<L: LinkLayer>()
+where
+    L::Bond: Supplied,
+    L::Bridge: Supplied,
+    L::Vlan: Supplied,
+    L::Can: Supplied,
+    L::Hsr: Supplied,
+    L::Dsa: Supplied,
+    L::Tun: Supplied,
+    L::BondPort: Supplied,
+    L::BridgePort: Supplied,
     ensures { AreLawful (data_families ⟦<L as LayerFamilies>⟧.families) }
 {
     lawful::<L>();
@@ -34,6 +44,16 @@ pub fn families_lawful_by<L: LinkLayer>()
 /// inside it. The same holds for port data. The families' names are in the tables `data_name` and
 /// `port_data_name`, in which the families that the layer supplies have the names that it gives.
 pub fn errors_named<P: LinkLayer>()
+where
+    P::Bond: Supplied,
+    P::Bridge: Supplied,
+    P::Vlan: Supplied,
+    P::Can: Supplied,
+    P::Hsr: Supplied,
+    P::Dsa: Supplied,
+    P::Tun: Supplied,
+    P::BondPort: Supplied,
+    P::BridgePort: Supplied,
     ensures { AreNamed ⟦<P as LayerFamilies>⟧.families }
 {
     lawful::<P>();

@@ -26,7 +26,7 @@ use crate::payload_family::PayloadFamily;
 use crate::port_data::{InfoPortDataOf, PortFamily};
 use linkinfo_devices::InfoVrfPort;
 use linkinfo_peers::InfoTeamPort;
-use linkinfo_table::{LayerFamilies, LinkLayer, LinkPeer};
+use linkinfo_table::{LayerFamilies, LinkLayer, LinkPeer, Supplied};
 use nla_frame::{Bytes, DecodeError, ExactEq, HeaderCount};
 use std::alloc::Global;
 use std::marker::PhantomData;
@@ -233,7 +233,18 @@ macro_rules! of_port {
     };
 }
 
-impl<L: LinkLayer> LayerCalls for L {
+impl<L: LinkLayer> LayerCalls for L
+where
+    L::Bond: Supplied,
+    L::Bridge: Supplied,
+    L::Vlan: Supplied,
+    L::Can: Supplied,
+    L::Hsr: Supplied,
+    L::Dsa: Supplied,
+    L::Tun: Supplied,
+    L::BondPort: Supplied,
+    L::BridgePort: Supplied,
+{
     ghost families = { ⟦<L as LayerFamilies>⟧.families };
 
     fn layer_read_data(
@@ -385,7 +396,18 @@ pub struct Layered<L> {
     of: PhantomData<L>,
 }
 
-impl<L: LinkLayer> DataLayer for Layered<L> {
+impl<L: LinkLayer> DataLayer for Layered<L>
+where
+    L::Bond: Supplied,
+    L::Bridge: Supplied,
+    L::Vlan: Supplied,
+    L::Can: Supplied,
+    L::Hsr: Supplied,
+    L::Dsa: Supplied,
+    L::Tun: Supplied,
+    L::BondPort: Supplied,
+    L::BridgePort: Supplied,
+{
     ghost use Rattle.linkinfo_data.specs.Data.{data_known};
     ghost use Rattle.linkinfo_data.specs.DataFamilies.{families_at};
     ghost use Rattle.linkinfo_data.specs.PortData.{port_known};

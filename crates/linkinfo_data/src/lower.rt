@@ -6,7 +6,7 @@ use crate::ask::Ask;
 use crate::calls::{ask, read};
 use crate::info_data::InfoDataOf;
 use crate::payload_family::PayloadFamily;
-use linkinfo_table::{LayerFamilies, LinkLayer};
+use linkinfo_table::{LayerFamilies, LinkLayer, Supplied};
 use nla_frame::{DecodeError, ExactEq, HeaderCount};
 use std::alloc::Global;
 
@@ -51,7 +51,18 @@ macro_rules! of_lower {
     };
 }
 
-impl<P: LinkLayer> PayloadFamily<P> for LowerFamily {
+impl<P: LinkLayer> PayloadFamily<P> for LowerFamily
+where
+    P::Bond: Supplied,
+    P::Bridge: Supplied,
+    P::Vlan: Supplied,
+    P::Can: Supplied,
+    P::Hsr: Supplied,
+    P::Dsa: Supplied,
+    P::Tun: Supplied,
+    P::BondPort: Supplied,
+    P::BridgePort: Supplied,
+{
     type Data = InfoDataOf<P>;
 
     ghost data_of = { λ family. lower_data_of ⟦<P as LayerFamilies>⟧.families family };

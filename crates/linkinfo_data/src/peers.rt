@@ -11,7 +11,7 @@ use linkinfo_peers::{
     InfoBatAdv, InfoNetkitOf, InfoPfcp, InfoVethOf, InfoVxcanOf, InfoWireguard, InfoWwan,
 };
 // End: written by tables/generate.
-use linkinfo_table::{LayerFamilies, LinkLayer};
+use linkinfo_table::{LayerFamilies, LinkLayer, Supplied};
 use nla_frame::{DecodeError, ExactEq, HeaderCount};
 use std::alloc::Global;
 
@@ -69,7 +69,18 @@ macro_rules! of_peered {
     };
 }
 
-impl<P: LinkLayer> PayloadFamily<P> for PeeredFamily {
+impl<P: LinkLayer> PayloadFamily<P> for PeeredFamily
+where
+    P::Bond: Supplied,
+    P::Bridge: Supplied,
+    P::Vlan: Supplied,
+    P::Can: Supplied,
+    P::Hsr: Supplied,
+    P::Dsa: Supplied,
+    P::Tun: Supplied,
+    P::BondPort: Supplied,
+    P::BridgePort: Supplied,
+{
     type Data = InfoDataOf<P>;
 
     ghost data_of = { λ family. peers_data_of ⟦<P as LayerFamilies>⟧.families family };

@@ -16,7 +16,7 @@ use crate::payload_family::PayloadFamily;
 use linkinfo_devices::InfoVrfPort;
 use linkinfo_numbers::{IFLA_INFO_SLAVE_DATA, InfoPortKind, PortTag};
 use linkinfo_peers::InfoTeamPort;
-use linkinfo_table::{LayerFamilies, LinkLayer};
+use linkinfo_table::{LayerFamilies, LinkLayer, Supplied};
 use nla_frame::{Bytes, DecodeError, ExactEq, HeaderCount, Nla, Nlas};
 use std::alloc::Global;
 
@@ -96,7 +96,18 @@ impl<P: DataLayer> PayloadFamily<P> for PortFamily {
     }
 }
 
-impl<P: LinkLayer> InfoPortDataOf<P> {
+impl<P: LinkLayer> InfoPortDataOf<P>
+where
+    P::Bond: Supplied,
+    P::Bridge: Supplied,
+    P::Vlan: Supplied,
+    P::Can: Supplied,
+    P::Hsr: Supplied,
+    P::Dsa: Supplied,
+    P::Tun: Supplied,
+    P::BondPort: Supplied,
+    P::BridgePort: Supplied,
+{
     /// Parses the payload of `IFLA_INFO_SLAVE_DATA` of a port of this kind.
     ///
     /// The result holds the attributes of the port kind's family, or the bytes if the port kind has
@@ -125,7 +136,18 @@ impl<P: LinkLayer> InfoPortDataOf<P> {
     }
 }
 
-impl<P: LinkLayer> InfoPortDataOf<P> {
+impl<P: LinkLayer> InfoPortDataOf<P>
+where
+    P::Bond: Supplied,
+    P::Bridge: Supplied,
+    P::Vlan: Supplied,
+    P::Can: Supplied,
+    P::Hsr: Supplied,
+    P::Dsa: Supplied,
+    P::Tun: Supplied,
+    P::BondPort: Supplied,
+    P::BridgePort: Supplied,
+{
     /// Encodes the data: the encodings of the attributes, one after another, or the bytes.
     #[tactic(auto, unfolding(crate::specs::PortData::port_data_payload))]
     pub(crate) fn encode<E: Encode>(&self, encode: E, buffer: &mut [u8]) -> E::Answer
@@ -145,7 +167,18 @@ impl<P: LinkLayer> InfoPortDataOf<P> {
 
 /// Written as an attribute of type 5 (`IFLA_INFO_SLAVE_DATA`). The payload is the encodings of the
 /// attributes, one after another.
-impl<P: LinkLayer> Nla for InfoPortDataOf<P> {
+impl<P: LinkLayer> Nla for InfoPortDataOf<P>
+where
+    P::Bond: Supplied,
+    P::Bridge: Supplied,
+    P::Vlan: Supplied,
+    P::Can: Supplied,
+    P::Hsr: Supplied,
+    P::Dsa: Supplied,
+    P::Tun: Supplied,
+    P::BondPort: Supplied,
+    P::BridgePort: Supplied,
+{
     ghost use Rattle.linkinfo_data.specs.PortData.{port_data_attribute};
 
     ghost attribute = { port_data_attribute ⟦<P as LayerFamilies>⟧.families };
@@ -172,7 +205,18 @@ impl<P: LinkLayer> Nla for InfoPortDataOf<P> {
     }
 }
 
-impl<P: LinkLayer> ExactEq for InfoPortDataOf<P> {
+impl<P: LinkLayer> ExactEq for InfoPortDataOf<P>
+where
+    P::Bond: ExactEq + Eq,
+    P::Bridge: ExactEq + Eq,
+    P::Vlan: ExactEq + Eq,
+    P::Can: ExactEq + Eq,
+    P::Hsr: ExactEq + Eq,
+    P::Dsa: ExactEq + Eq,
+    P::Tun: ExactEq + Eq,
+    P::BondPort: ExactEq + Eq,
+    P::BridgePort: ExactEq + Eq,
+{
     ghost use Rattle.std.specs.Cmp.Lexicographic.{bytes_decides, pointwise_decides};
     ghost use Rattle.std.proofs.Common.{rules};
     ghost use Rattle.nla_frame.specs.Derived.{one_field};

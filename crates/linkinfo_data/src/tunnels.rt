@@ -8,7 +8,7 @@ use crate::calls::{ask, read};
 use crate::info_data::InfoDataOf;
 use crate::payload_family::PayloadFamily;
 use linkinfo_numbers::KindTag;
-use linkinfo_table::{LayerFamilies, LinkLayer};
+use linkinfo_table::{LayerFamilies, LinkLayer, Supplied};
 // Begin: written by tables/generate from tables/kinds (types).
 use linkinfo_tunnels::{
     InfoAmt, InfoBareUdp, InfoGeneve, InfoGre, InfoGre6, InfoGtp, InfoIpTunnel, InfoVti, InfoVxlan,
@@ -102,7 +102,18 @@ macro_rules! of_tunnel {
     };
 }
 
-impl<P: LinkLayer> PayloadFamily<P> for TunnelFamily {
+impl<P: LinkLayer> PayloadFamily<P> for TunnelFamily
+where
+    P::Bond: Supplied,
+    P::Bridge: Supplied,
+    P::Vlan: Supplied,
+    P::Can: Supplied,
+    P::Hsr: Supplied,
+    P::Dsa: Supplied,
+    P::Tun: Supplied,
+    P::BondPort: Supplied,
+    P::BridgePort: Supplied,
+{
     type Data = InfoDataOf<P>;
 
     ghost data_of = { λ family. tunnels_data_of (types_of ⟦<P as LayerFamilies>⟧.families) family };

@@ -10,7 +10,6 @@ use crate::lower::{
 use crate::opaque::{Opaque, TUN};
 use crate::peer::LinkPeer;
 use nla_frame::ExactEq;
-use std::fmt::Debug;
 
 /// What other layers supply to link info: the type of peers, and the family of the attributes of
 /// each kind of link and of port whose attributes are theirs.
@@ -21,31 +20,31 @@ pub trait LinkLayer: Eq + Sized {
     type Peer: LinkPeer;
 
     /// Attributes of `bond` links (`IFLA_BOND_*`).
-    type Bond: LinkFamily<Context = ()> + Clone + Debug + Eq + ExactEq;
+    type Bond: Drop;
 
     /// Attributes of `bridge` links (`IFLA_BR_*`).
-    type Bridge: LinkFamily<Context = ()> + Clone + Debug + Eq + ExactEq;
+    type Bridge: Drop;
 
     /// Attributes of `vlan` links (`IFLA_VLAN_*`).
-    type Vlan: LinkFamily<Context = ()> + Clone + Debug + Eq + ExactEq;
+    type Vlan: Drop;
 
     /// Attributes of `can` links (`IFLA_CAN_*`).
-    type Can: LinkFamily<Context = ()> + Clone + Debug + Eq + ExactEq;
+    type Can: Drop;
 
     /// Attributes of `hsr` links (`IFLA_HSR_*`).
-    type Hsr: LinkFamily<Context = ()> + Clone + Debug + Eq + ExactEq;
+    type Hsr: Drop;
 
     /// Attributes of `dsa` links (`IFLA_DSA_*`).
-    type Dsa: LinkFamily<Context = ()> + Clone + Debug + Eq + ExactEq;
+    type Dsa: Drop;
 
     /// Attributes of `tun` links (`IFLA_TUN_*`).
-    type Tun: LinkFamily<Context = ()> + Clone + Debug + Eq + ExactEq;
+    type Tun: Drop;
 
     /// Attributes of ports of a `bond` link (`IFLA_BOND_SLAVE_*`).
-    type BondPort: LinkFamily<Context = ()> + Clone + Debug + Eq + ExactEq;
+    type BondPort: Drop;
 
     /// Attributes of ports of a `bridge` link (`IFLA_BRPORT_*`).
-    type BridgePort: LinkFamily<Context = ()> + Clone + Debug + Eq + ExactEq;
+    type BridgePort: Drop;
 }
 
 /// The layer of a peer, whose families are opaque: each attribute is kept verbatim.
@@ -71,6 +70,12 @@ impl<P: LinkPeer> LinkLayer for P {
     type BridgePort = InfoBridgePort;
 }
 
+/// A family that a layer supplies. Each `LinkFamily` whose `Context` is `()`, and whose attributes
+/// are compared, is one.
+pub trait Supplied: LinkFamily<Context = ()> + Eq + ExactEq {}
+
+impl<F: LinkFamily<Context = ()> + Eq + ExactEq> Supplied for F {}
+
 /// All that the peer and the families of a layer define, in one record. Every layer implements it,
 /// and no other type does.
 pub trait LayerFamilies: LinkLayer {
@@ -90,7 +95,18 @@ pub trait LayerFamilies: LinkLayer {
     }) };
 }
 
-impl<L: LinkLayer> LayerFamilies for L {
+impl<L: LinkLayer> LayerFamilies for L
+where
+    L::Bond: Supplied,
+    L::Bridge: Supplied,
+    L::Vlan: Supplied,
+    L::Can: Supplied,
+    L::Hsr: Supplied,
+    L::Dsa: Supplied,
+    L::Tun: Supplied,
+    L::BondPort: Supplied,
+    L::BridgePort: Supplied,
+{
     ghost families = { record {
       peer = L.Peer.LinkPeer.own;
       bond = ⟦<L::Bond as ListedFamily>⟧.members tt;

@@ -41,7 +41,7 @@ pub use encodable::Encodable;
 pub use family::LinkFamily;
 pub use first::{first_check, first_measure, first_read, first_same, first_write_canonical};
 pub use last::{INDEXED, LastOfType, PlacedNla, own_bytes, types_end};
-pub use layer::{LayerFamilies, LinkLayer};
+pub use layer::{LayerFamilies, LinkLayer, Supplied};
 pub use linkinfo_shapes::{
     Datum, Shape, datum_len, read_datum, shape_canonical_len, shape_check, shape_same,
     shape_write_attribute, shape_write_canonical, table_shape, typed_shape, write_datum,

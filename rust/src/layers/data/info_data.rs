@@ -17,7 +17,7 @@ use crate::layers::peers::{
     InfoBatAdv, InfoNetkitOf, InfoPfcp, InfoVethOf, InfoVxcanOf, InfoWireguard, InfoWwan,
 };
 // End: written by tables/generate.
-use crate::layers::table::LinkLayer;
+use crate::layers::table::{LinkLayer, Supplied};
 // Begin: written by tables/generate from tables/kinds (tunnel).
 use crate::layers::tunnels::{
     InfoAmt, InfoBareUdp, InfoGeneve, InfoGre, InfoGre6, InfoGtp, InfoIpTunnel, InfoVti, InfoVxlan,
@@ -113,7 +113,18 @@ pub enum InfoDataOf<P: LinkLayer> {
 /// The data of a link (`IFLA_INFO_DATA`), with peers kept as bytes, and opaque families.
 pub type InfoData = InfoDataOf<Bytes>;
 
-impl<P: LinkLayer> InfoDataOf<P> {
+impl<P: LinkLayer> InfoDataOf<P>
+where
+    P::Bond: Supplied,
+    P::Bridge: Supplied,
+    P::Vlan: Supplied,
+    P::Can: Supplied,
+    P::Hsr: Supplied,
+    P::Dsa: Supplied,
+    P::Tun: Supplied,
+    P::BondPort: Supplied,
+    P::BridgePort: Supplied,
+{
     /// Parses the payload of `IFLA_INFO_DATA` of a link of this kind.
     ///
     /// The result holds the attributes of the kind's family, or the bytes if the kind has none.
@@ -131,7 +142,18 @@ impl<P: LinkLayer> InfoDataOf<P> {
     }
 }
 
-impl<P: LinkLayer> InfoDataOf<P> {
+impl<P: LinkLayer> InfoDataOf<P>
+where
+    P::Bond: Supplied,
+    P::Bridge: Supplied,
+    P::Vlan: Supplied,
+    P::Can: Supplied,
+    P::Hsr: Supplied,
+    P::Dsa: Supplied,
+    P::Tun: Supplied,
+    P::BondPort: Supplied,
+    P::BridgePort: Supplied,
+{
     /// Encodes the data: the encodings of the attributes, one after another, or the bytes.
     pub(crate) fn encode<E: Encode>(&self, encode: E, buffer: &mut [u8]) -> E::Answer {
         match self {
@@ -180,7 +202,18 @@ impl<P: LinkLayer> InfoDataOf<P> {
 
 /// Written as an attribute of type 2 (`IFLA_INFO_DATA`). The payload is the encodings of the
 /// attributes, one after another.
-impl<P: LinkLayer> Nla for InfoDataOf<P> {
+impl<P: LinkLayer> Nla for InfoDataOf<P>
+where
+    P::Bond: Supplied,
+    P::Bridge: Supplied,
+    P::Vlan: Supplied,
+    P::Can: Supplied,
+    P::Hsr: Supplied,
+    P::Dsa: Supplied,
+    P::Tun: Supplied,
+    P::BondPort: Supplied,
+    P::BridgePort: Supplied,
+{
     #[inline]
     fn value_len(&self) -> usize {
         self.fit_len().unwrap_or(0)
@@ -207,6 +240,17 @@ impl<P: LinkLayer> Nla for InfoDataOf<P> {
     }
 }
 
-impl<P: LinkLayer> ExactEq for InfoDataOf<P> {
+impl<P: LinkLayer> ExactEq for InfoDataOf<P>
+where
+    P::Bond: ExactEq + Eq,
+    P::Bridge: ExactEq + Eq,
+    P::Vlan: ExactEq + Eq,
+    P::Can: ExactEq + Eq,
+    P::Hsr: ExactEq + Eq,
+    P::Dsa: ExactEq + Eq,
+    P::Tun: ExactEq + Eq,
+    P::BondPort: ExactEq + Eq,
+    P::BridgePort: ExactEq + Eq,
+{
     // End: written by tables/generate.
 }

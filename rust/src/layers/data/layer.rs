@@ -13,7 +13,7 @@ use crate::layers::data::port_data::{InfoPortDataOf, PortFamily};
 use crate::layers::devices::InfoVrfPort;
 use crate::layers::nla_frame::{Bytes, DecodeError, ExactEq, HeaderCount};
 use crate::layers::peers::InfoTeamPort;
-use crate::layers::table::{LinkLayer, LinkPeer};
+use crate::layers::table::{LinkLayer, LinkPeer, Supplied};
 use core::marker::PhantomData;
 
 /// A layer, as what is made of data and of port data sees it: the types of both, and the calls on
@@ -215,7 +215,18 @@ macro_rules! of_port {
     };
 }
 
-impl<L: LinkLayer> LayerCalls for L {
+impl<L: LinkLayer> LayerCalls for L
+where
+    L::Bond: Supplied,
+    L::Bridge: Supplied,
+    L::Vlan: Supplied,
+    L::Can: Supplied,
+    L::Hsr: Supplied,
+    L::Dsa: Supplied,
+    L::Tun: Supplied,
+    L::BondPort: Supplied,
+    L::BridgePort: Supplied,
+{
     fn layer_read_data(
         family: DataFamily,
         payload: &[u8],
@@ -348,7 +359,18 @@ pub struct Layered<L> {
     of: PhantomData<L>,
 }
 
-impl<L: LinkLayer> DataLayer for Layered<L> {
+impl<L: LinkLayer> DataLayer for Layered<L>
+where
+    L::Bond: Supplied,
+    L::Bridge: Supplied,
+    L::Vlan: Supplied,
+    L::Can: Supplied,
+    L::Hsr: Supplied,
+    L::Dsa: Supplied,
+    L::Tun: Supplied,
+    L::BondPort: Supplied,
+    L::BridgePort: Supplied,
+{
     type Data = InfoDataOf<L>;
 
     type PortData = InfoPortDataOf<L>;

@@ -7,7 +7,7 @@ use crate::layers::data::calls::{ask, read};
 use crate::layers::data::info_data::InfoDataOf;
 use crate::layers::data::payload_family::PayloadFamily;
 use crate::layers::nla_frame::{DecodeError, ExactEq, HeaderCount};
-use crate::layers::table::LinkLayer;
+use crate::layers::table::{LinkLayer, Supplied};
 
 /// The families of data of bridge, vlan, bond, hsr, can and dsa links, which the layer supplies.
 #[derive(Clone, Copy, Debug, PartialEq, Eq, Hash, PartialOrd, Ord)]
@@ -46,7 +46,18 @@ macro_rules! of_lower {
     };
 }
 
-impl<P: LinkLayer> PayloadFamily<P> for LowerFamily {
+impl<P: LinkLayer> PayloadFamily<P> for LowerFamily
+where
+    P::Bond: Supplied,
+    P::Bridge: Supplied,
+    P::Vlan: Supplied,
+    P::Can: Supplied,
+    P::Hsr: Supplied,
+    P::Dsa: Supplied,
+    P::Tun: Supplied,
+    P::BondPort: Supplied,
+    P::BridgePort: Supplied,
+{
     type Data = InfoDataOf<P>;
 
     fn read(self, payload: &[u8], count: &mut HeaderCount) -> Result<InfoDataOf<P>, DecodeError> {

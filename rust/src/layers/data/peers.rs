@@ -12,7 +12,7 @@ use crate::layers::peers::{
 };
 // End: written by tables/generate.
 use crate::layers::nla_frame::{DecodeError, ExactEq, HeaderCount};
-use crate::layers::table::LinkLayer;
+use crate::layers::table::{LinkLayer, Supplied};
 
 /// The families of data of links with a peer (veth, vxcan and netkit), and of tun, wireguard,
 /// batadv, wwan and pfcp links.
@@ -64,7 +64,18 @@ macro_rules! of_peered {
     };
 }
 
-impl<P: LinkLayer> PayloadFamily<P> for PeeredFamily {
+impl<P: LinkLayer> PayloadFamily<P> for PeeredFamily
+where
+    P::Bond: Supplied,
+    P::Bridge: Supplied,
+    P::Vlan: Supplied,
+    P::Can: Supplied,
+    P::Hsr: Supplied,
+    P::Dsa: Supplied,
+    P::Tun: Supplied,
+    P::BondPort: Supplied,
+    P::BridgePort: Supplied,
+{
     type Data = InfoDataOf<P>;
 
     fn read(self, payload: &[u8], count: &mut HeaderCount) -> Result<InfoDataOf<P>, DecodeError> {

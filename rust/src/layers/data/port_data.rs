@@ -10,7 +10,7 @@ use crate::layers::devices::InfoVrfPort;
 use crate::layers::nla_frame::{Bytes, DecodeError, ExactEq, HeaderCount, Nla, Nlas};
 use crate::layers::numbers::{IFLA_INFO_SLAVE_DATA, InfoPortKind, PortTag};
 use crate::layers::peers::InfoTeamPort;
-use crate::layers::table::LinkLayer;
+use crate::layers::table::{LinkLayer, Supplied};
 
 /// The family of the attributes in `IFLA_INFO_SLAVE_DATA`, which the kind of the port chooses.
 #[derive(Clone, Copy, Debug, PartialEq, Eq, Hash, PartialOrd, Ord)]
@@ -76,7 +76,18 @@ impl<P: DataLayer> PayloadFamily<P> for PortFamily {
     }
 }
 
-impl<P: LinkLayer> InfoPortDataOf<P> {
+impl<P: LinkLayer> InfoPortDataOf<P>
+where
+    P::Bond: Supplied,
+    P::Bridge: Supplied,
+    P::Vlan: Supplied,
+    P::Can: Supplied,
+    P::Hsr: Supplied,
+    P::Dsa: Supplied,
+    P::Tun: Supplied,
+    P::BondPort: Supplied,
+    P::BridgePort: Supplied,
+{
     /// Parses the payload of `IFLA_INFO_SLAVE_DATA` of a port of this kind.
     ///
     /// The result holds the attributes of the port kind's family, or the bytes if the port kind has
@@ -96,7 +107,18 @@ impl<P: LinkLayer> InfoPortDataOf<P> {
     }
 }
 
-impl<P: LinkLayer> InfoPortDataOf<P> {
+impl<P: LinkLayer> InfoPortDataOf<P>
+where
+    P::Bond: Supplied,
+    P::Bridge: Supplied,
+    P::Vlan: Supplied,
+    P::Can: Supplied,
+    P::Hsr: Supplied,
+    P::Dsa: Supplied,
+    P::Tun: Supplied,
+    P::BondPort: Supplied,
+    P::BridgePort: Supplied,
+{
     /// Encodes the data: the encodings of the attributes, one after another, or the bytes.
     pub(crate) fn encode<E: Encode>(&self, encode: E, buffer: &mut [u8]) -> E::Answer {
         match self {
@@ -111,7 +133,18 @@ impl<P: LinkLayer> InfoPortDataOf<P> {
 
 /// Written as an attribute of type 5 (`IFLA_INFO_SLAVE_DATA`). The payload is the encodings of the
 /// attributes, one after another.
-impl<P: LinkLayer> Nla for InfoPortDataOf<P> {
+impl<P: LinkLayer> Nla for InfoPortDataOf<P>
+where
+    P::Bond: Supplied,
+    P::Bridge: Supplied,
+    P::Vlan: Supplied,
+    P::Can: Supplied,
+    P::Hsr: Supplied,
+    P::Dsa: Supplied,
+    P::Tun: Supplied,
+    P::BondPort: Supplied,
+    P::BridgePort: Supplied,
+{
     #[inline]
     fn value_len(&self) -> usize {
         self.fit_len().unwrap_or(0)
@@ -138,4 +171,16 @@ impl<P: LinkLayer> Nla for InfoPortDataOf<P> {
     }
 }
 
-impl<P: LinkLayer> ExactEq for InfoPortDataOf<P> {}
+impl<P: LinkLayer> ExactEq for InfoPortDataOf<P>
+where
+    P::Bond: ExactEq + Eq,
+    P::Bridge: ExactEq + Eq,
+    P::Vlan: ExactEq + Eq,
+    P::Can: ExactEq + Eq,
+    P::Hsr: ExactEq + Eq,
+    P::Dsa: ExactEq + Eq,
+    P::Tun: ExactEq + Eq,
+    P::BondPort: ExactEq + Eq,
+    P::BridgePort: ExactEq + Eq,
+{
+}

@@ -9,7 +9,6 @@ use crate::layers::table::lower::{
 };
 use crate::layers::table::opaque::{Opaque, TUN};
 use crate::layers::table::peer::LinkPeer;
-use core::fmt::Debug;
 
 /// What other layers supply to link info: the type of peers, and the family of the attributes of
 /// each kind of link and of port whose attributes are theirs.
@@ -22,31 +21,31 @@ pub trait LinkLayer: Eq + Sized {
     type Peer: LinkPeer;
 
     /// Attributes of `bond` links (`IFLA_BOND_*`).
-    type Bond: LinkFamily<Context = ()> + Clone + Debug + Eq + ExactEq;
+    type Bond;
 
     /// Attributes of `bridge` links (`IFLA_BR_*`).
-    type Bridge: LinkFamily<Context = ()> + Clone + Debug + Eq + ExactEq;
+    type Bridge;
 
     /// Attributes of `vlan` links (`IFLA_VLAN_*`).
-    type Vlan: LinkFamily<Context = ()> + Clone + Debug + Eq + ExactEq;
+    type Vlan;
 
     /// Attributes of `can` links (`IFLA_CAN_*`).
-    type Can: LinkFamily<Context = ()> + Clone + Debug + Eq + ExactEq;
+    type Can;
 
     /// Attributes of `hsr` links (`IFLA_HSR_*`).
-    type Hsr: LinkFamily<Context = ()> + Clone + Debug + Eq + ExactEq;
+    type Hsr;
 
     /// Attributes of `dsa` links (`IFLA_DSA_*`).
-    type Dsa: LinkFamily<Context = ()> + Clone + Debug + Eq + ExactEq;
+    type Dsa;
 
     /// Attributes of `tun` links (`IFLA_TUN_*`).
-    type Tun: LinkFamily<Context = ()> + Clone + Debug + Eq + ExactEq;
+    type Tun;
 
     /// Attributes of ports of a `bond` link (`IFLA_BOND_SLAVE_*`).
-    type BondPort: LinkFamily<Context = ()> + Clone + Debug + Eq + ExactEq;
+    type BondPort;
 
     /// Attributes of ports of a `bridge` link (`IFLA_BRPORT_*`).
-    type BridgePort: LinkFamily<Context = ()> + Clone + Debug + Eq + ExactEq;
+    type BridgePort;
 }
 
 /// The layer of a peer, whose families are opaque: each attribute is kept verbatim.
@@ -72,8 +71,28 @@ impl<P: LinkPeer> LinkLayer for P {
     type BridgePort = InfoBridgePort;
 }
 
+/// A family that a layer supplies. Each [`LinkFamily`] whose `Context` is `()`, and whose
+/// attributes are compared, is one.
+///
+/// [`LinkFamily`]: crate::layers::table::LinkFamily
+pub trait Supplied: LinkFamily<Context = ()> + Eq + ExactEq {}
+
+impl<F: LinkFamily<Context = ()> + Eq + ExactEq> Supplied for F {}
+
 /// All that the peer and the families of a layer define, in one record. Every layer implements it,
 /// and no other type does.
 pub trait LayerFamilies: LinkLayer {}
 
-impl<L: LinkLayer> LayerFamilies for L {}
+impl<L: LinkLayer> LayerFamilies for L
+where
+    L::Bond: Supplied,
+    L::Bridge: Supplied,
+    L::Vlan: Supplied,
+    L::Can: Supplied,
+    L::Hsr: Supplied,
+    L::Dsa: Supplied,
+    L::Tun: Supplied,
+    L::BondPort: Supplied,
+    L::BridgePort: Supplied,
+{
+}

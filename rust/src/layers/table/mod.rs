@@ -43,7 +43,7 @@ pub use encodable::Encodable;
 pub use family::LinkFamily;
 pub use first::{first_check, first_measure, first_read, first_same, first_write_canonical};
 pub use last::{INDEXED, LastOfType, PlacedNla, own_bytes, types_end};
-pub use layer::{LayerFamilies, LinkLayer};
+pub use layer::{LayerFamilies, LinkLayer, Supplied};
 pub use list::{list_check, list_measure, list_read, list_same, list_write_canonical, total_with};
 pub use listed::ListedFamily;
 pub use located::{list_error, whole_error};
