@@ -3,7 +3,8 @@
 //! numbers and attributes.
 
 // Every family has `ListedFamily`, and every layer `LayerFamilies`: they are for contracts alone,
-// as `PlainFamilies` and `Plain`, `TypedFamilies` and `TypedRows` are. Every layer has `LayerCalls` too.
+// as `PlainFamilies` and `Plain`, `TypedFamilies` and `TypedRows` are. Every layer has `LayerCalls`
+// too.
 pub use crate::typed_layer::{TypedFamilies, TypedRows};
 pub use linkinfo_data::{DataLayer, LayerCalls, Layered, Plain, PlainFamilies};
 pub use linkinfo_numbers::{KeepsEveryBit, bits_again};

@@ -124,8 +124,8 @@ impl<P: LinkPeer> DataLayer for Typed<P> {
     }
 }
 
-/// The specification of the attributes of each family that the typed layer has in place of an opaque
-/// one.
+/// The specification of the attributes of each family that the typed layer has in place of an
+/// opaque one.
 pub trait TypedFamilies {
     ghost vlan: { Members InfoVlan };
 }

@@ -5,7 +5,8 @@
 //! numbers and attributes.
 
 // Every family has `ListedFamily`, and every layer `LayerFamilies`: they are for contracts alone,
-// as `PlainFamilies` and `Plain`, `TypedFamilies` and `TypedRows` are. Every layer has `LayerCalls` too.
+// as `PlainFamilies` and `Plain`, `TypedFamilies` and `TypedRows` are. Every layer has `LayerCalls`
+// too.
 pub use crate::layers::data::{DataLayer, LayerCalls, Layered, Plain, PlainFamilies};
 pub use crate::layers::link::typed_layer::{TypedFamilies, TypedRows};
 pub use crate::layers::nla_frame::{

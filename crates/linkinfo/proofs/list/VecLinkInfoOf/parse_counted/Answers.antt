@@ -1,7 +1,7 @@
 -- Each clause is that of `read_rest`, from the beginning of the bytes; the count is a sum.
 use Rattle.std.proofs.Common.{◌∙◌, ap, arith, sym, List, Result, Ok}
 use Rattle.nla_frame.specs.declared.error.DecodeError.{DecodeError}
-use Rattle.linkinfo_table.specs.Layers.{Types}
+use Rattle.linkinfo_data.specs.DataFamilies.{DataTypes}
 use Rattle.linkinfo.specs.Layered.{LinkOf}
 use Rattle.linkinfo.proofs.list.VecLinkInfoOf.parse_counted.Goals as goal
 use Rattle.linkinfo.specs.Strings.{headers_of_string, reading, reading_needs_memory}
