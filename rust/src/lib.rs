@@ -185,7 +185,7 @@ pub use layers::lower::{InfoBondPort, InfoBridgePort};
 #[doc(inline)]
 // Begin: written by tables/generate from tables/kinds (peered).
 pub use layers::peers::{
-    InfoBatAdv, InfoNetkitOf, InfoPfcp, InfoTun, InfoVethOf, InfoVxcanOf, InfoWireguard, InfoWwan,
+    InfoBatAdv, InfoNetkitOf, InfoPfcp, InfoVethOf, InfoVxcanOf, InfoWireguard, InfoWwan,
 };
 // End: written by tables/generate.
 #[doc(inline)]

@@ -13,7 +13,7 @@ def group_row(group):
     files = re.split("::|_", crate)[-1]
     return {"Group": group, "group": group.lower(), "of": crate, "groups": files,
             "specs": f"{files.removesuffix('s').capitalize()}Data",
-            "given": "t" if group in ("Device", "Tunnel") else "layer",
+            "given": {"Lower": "layer", "Peered": "t peer"}.get(group, "t"),
             "flagged": "h " * (group == "Tunnel")}
 
 
@@ -55,6 +55,7 @@ def data_row(ours, families, names):
         "declared": family.snake if form == "twin" else name,
         "module": family.module if first else name.lower(),
         "type": of.get(form, holder),
+        "called": f"<Self as LinkLayer>::{name}" if form == "supplied" else of.get(form, holder),
         "members": family and f"{family.type}Of {int(not first)}", "crate": crate,
         "spec": family and family.spec, "names": f" (`{prefix}*`)" if family else "",
         "these": listed(family.kinds) if family else "",
@@ -132,7 +133,9 @@ def outputs(tables):
         "inside": [(group[0], group) for group in groups
                    if any(row["form"] == "supplied" for row in group)],
         "named": [(group[0], named(group)) for group in groups],
-        "types by group": [(group[0], typed(group)) for group in groups],
+        # (the opaque type of tun is one of linkinfo_peers, which lib.rt names beside these)
+        "types by group": [(group[0], typed([row for row in group if row["data"] != "Tun"]))
+                           for group in groups],
         "own types by group": [(group[0], typed(group)) for group in own if group],
         "rows by group": [(group[0], typed([row for row in group if row in listed_in]))
                           for group in groups[1:]],

@@ -11,8 +11,6 @@ pub mod Met
 pub mod Placed
 pub mod Roles
 pub mod Strings
-pub mod TypedLayer
-pub mod TypedTypes
 pub mod Unmet
 pub mod UnmetSteps
 pub mod Walks

@@ -3,10 +3,10 @@
 //! numbers and attributes.
 
 // Every family has `ListedFamily`, and every layer `LayerFamilies`: they are for contracts alone,
-// as `PlainFamilies` and `Plain`, `TypedFamilies` and `TypedRows` are. Every layer has `LayerCalls`
-// too.
-pub use crate::typed_layer::{TypedFamilies, TypedRows};
-pub use linkinfo_data::{DataLayer, LayerCalls, Layered, Plain, PlainFamilies};
+// as `PlainFamilies` and `Plain`, `TypedFamilies` and `TypedRows` are.
+pub use linkinfo_data::{
+    DataLayer, Encode, FitLen, Layered, Plain, PlainFamilies, TypedFamilies, TypedRows, Write,
+};
 pub use linkinfo_numbers::{KeepsEveryBit, bits_again};
 pub use linkinfo_peers::BitPeer;
 pub use linkinfo_table::{

@@ -18,7 +18,6 @@ mod list;
 mod placed;
 mod role;
 pub mod typed;
-mod typed_layer;
 mod unmet;
 pub mod unmet_laws;
 mod walk;
@@ -71,10 +70,10 @@ pub use linkinfo_numbers::{
 // End: written by tables/generate.
 // Begin: written by tables/generate from tables/kinds (peered).
 pub use linkinfo_peers::{
-    InfoBatAdv, InfoNetkitOf, InfoPfcp, InfoTun, InfoVethOf, InfoVxcanOf, InfoWireguard, InfoWwan,
+    InfoBatAdv, InfoNetkitOf, InfoPfcp, InfoVethOf, InfoVxcanOf, InfoWireguard, InfoWwan,
 };
 // End: written by tables/generate.
-pub use linkinfo_peers::{InfoNetkit, InfoTeamPort, InfoVeth, InfoVxcan};
+pub use linkinfo_peers::{InfoNetkit, InfoTeamPort, InfoTun, InfoVeth, InfoVxcan};
 // Begin: written by tables/generate from tables/kinds (lower).
 pub use linkinfo_table::lower::{InfoBond, InfoBridge, InfoCan, InfoDsa, InfoHsr, InfoVlan};
 // End: written by tables/generate.

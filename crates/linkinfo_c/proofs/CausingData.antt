@@ -156,6 +156,9 @@ lower_errors : (f : LowerFamily) (p : List ℕ) → EachError ((lower_data_of by
 lower_errors lower.Bridge p =
     variant_errors (λ xs. info.Bridge xs) (values bytes_families.bridge.meaning (nla_items p))
     (table_errors _ _ [] p)
+lower_errors lower.Tun p =
+    variant_errors (λ xs. info.Tun xs) (values bytes_families.tun.meaning (nla_items p))
+    (table_errors _ _ [] p)
 lower_errors lower.Vlan p =
     variant_errors (λ xs. info.Vlan xs) (values bytes_families.vlan.meaning (nla_items p))
     (table_errors _ _ [] p)
@@ -298,11 +301,8 @@ sure : {X : Type 0} (x : X) → EachPayloadError (let m : Result X PayloadError 
 sure x = (λ c k. absurd cc, λ e k. absurd cc)
 
 peers_errors : (f : PeeredFamily) (p : List ℕ) →
-    EachError ((peers_data_of bytes_families f).means p)
+    EachError ((peers_data_of (types_of bytes_families) bytes_families.peer f).means p)
 -- Begin: written by tables/generate from tables/kinds (peered).
-peers_errors peered.Tun p =
-    variant_errors (λ xs. info.Tun xs) (values bytes_families.tun.meaning (nla_items p))
-    (table_errors _ _ [] p)
 peers_errors peered.Veth p =
     variant_errors (λ x. info.Veth x)
     (first_meaning (veth_members bytes_families.peer).meaning (nla_items p))

@@ -33,7 +33,7 @@ use Rattle.linkinfo_data.specs.DeviceData.{devices_data_of}
 use Rattle.linkinfo_data.specs.LowerData.{lower_data_of}
 use Rattle.linkinfo_data.specs.Names.{AreNamed}
 use Rattle.linkinfo_data.specs.Names.{ErrorsName, device_name, first_errors_name, list_errors_name}
-use Rattle.linkinfo_data.specs.Names.{lower_inner, lower_name, no_name, peered_inner, peered_name}
+use Rattle.linkinfo_data.specs.Names.{lower_inner, lower_name, no_name, peered_name}
 use Rattle.linkinfo_data.specs.Names.{port_data_inner, port_data_name, tunnel_name, under_name}
 use Rattle.linkinfo_data.specs.PeerData.{peers_data_of}
 use Rattle.linkinfo_data.specs.Plain.{plain}
@@ -60,6 +60,7 @@ data_named layer is =
       -- Begin: written by tables/generate from tables/kinds (lower).
       | lower.Bridge ↦ list_errors_name (names_of layer.bridge) layer.bridge
           (λ xs. info.Bridge xs) is.bridge.named
+      | lower.Tun ↦ list_errors_name (names_of layer.tun) layer.tun (λ xs. info.Tun xs) is.tun.named
       | lower.Vlan ↦ list_errors_name (names_of layer.vlan) layer.vlan
           (λ xs. info.Vlan xs) is.vlan.named
       | lower.Bond ↦ list_errors_name (names_of layer.bond) layer.bond
@@ -118,12 +119,10 @@ data_named layer is =
           (λ xs. info.Ip6ErSpan xs) gre6_names
       -- End: written by tables/generate.
     ] in
-    let peered_ones : (f : PeeredFamily) → ErrorsName (peered_name layer f ∷ peered_inner layer f)
-    (peers_data_of layer f) =
+    let peered_ones : (f : PeeredFamily) → ErrorsName (peered_name layer f ∷ [])
+    (peers_data_of (types_of layer) layer.peer f) =
     elim [
       -- Begin: written by tables/generate from tables/kinds (peered).
-      | peered.Tun ↦ list_errors_name (names_of layer.tun) layer.tun
-          (λ xs. info.Tun xs) is.tun.named
       | peered.Veth ↦ first_errors_name (family.Veth ∷ []) (veth_members layer.peer)
           (λ x. info.Veth x) (first_named (veth_lawful layer.peer is.peer) family.Veth)
       | peered.Wireguard ↦ list_errors_name (family.Wireguard ∷ []) plain.wireguard
@@ -171,7 +170,7 @@ data_named layer is =
             (tunnel_ones f)
         | of.Peered f ↦ λ name e. under_name (data_of layer (of.Peered f)) (peered_name layer f)
             name
-            (peered_inner layer f) e
+            [] e
             (peered_ones f)
         | of.Raw ↦ λ name e. absurd (no_name name e)
       ];

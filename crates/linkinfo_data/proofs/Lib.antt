@@ -1,3 +1,4 @@
 pub mod DataNamed
 pub mod Located
 pub mod Stated
+pub mod Supplied

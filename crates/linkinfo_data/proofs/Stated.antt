@@ -62,6 +62,7 @@ data_stated layer well is =
     IsStated (lower_data_of layer f) (λ d. lower_conditions layer.peer.well well f d) = elim [
       -- Begin: written by tables/generate from tables/kinds (lower).
       | lower.Bridge ↦ list_stated layer.bridge (λ xs. info.Bridge xs) well.bridge is.bridge
+      | lower.Tun ↦ list_stated layer.tun (λ xs. info.Tun xs) well.tun is.tun
       | lower.Vlan ↦ list_stated layer.vlan (λ xs. info.Vlan xs) well.vlan is.vlan
       | lower.Bond ↦ list_stated layer.bond (λ xs. info.Bond xs) well.bond is.bond
       | lower.Hsr ↦ list_stated layer.hsr (λ xs. info.Hsr xs) well.hsr is.hsr
@@ -114,9 +115,8 @@ data_stated layer well is =
       -- End: written by tables/generate.
     ] in
     let peered_ones : (f : PeeredFamily) →
-    IsStated (peers_data_of layer f) (λ d. peered_conditions layer.peer.well well f d) = elim [
+    IsStated (peers_data_of (types_of layer) layer.peer f) (λ d. peered_conditions layer.peer.well well f d) = elim [
       -- Begin: written by tables/generate from tables/kinds (peered).
-      | peered.Tun ↦ list_stated layer.tun (λ xs. info.Tun xs) well.tun is.tun
       | peered.Veth ↦ one_stated (veth_members layer.peer) (λ x. info.Veth x)
           (veth_conditions layer.peer.well)
           (veth_stated layer.peer.meaning layer.peer.alike layer.peer.canonical layer.peer.well)

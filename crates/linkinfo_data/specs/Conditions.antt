@@ -111,6 +111,7 @@ abbrev pub lower_conditions : {t : Types} → (t.Peer → Type 0) → FamilyCond
     LowerFamily → DataOf t → Type 0
 -- Begin: written by tables/generate from tables/kinds (lower).
 lower_conditions peer well lower.Bridge d = IsListOf (λ xs. info.Bridge xs) well.bridge d
+lower_conditions peer well lower.Tun d = IsListOf (λ xs. info.Tun xs) well.tun d
 lower_conditions peer well lower.Vlan d = IsListOf (λ xs. info.Vlan xs) well.vlan d
 lower_conditions peer well lower.Bond d = IsListOf (λ xs. info.Bond xs) well.bond d
 lower_conditions peer well lower.Hsr d = IsListOf (λ xs. info.Hsr xs) well.hsr d
@@ -161,7 +162,6 @@ tunnel_conditions peer well tunnel.Ip6ErSpan d =
 abbrev pub peered_conditions : {t : Types} → (t.Peer → Type 0) → FamilyConditions t →
     PeeredFamily → DataOf t → Type 0
 -- Begin: written by tables/generate from tables/kinds (peered).
-peered_conditions peer well peered.Tun d = IsListOf (λ xs. info.Tun xs) well.tun d
 peered_conditions peer well peered.Veth d =
     IsOneOf (λ x. info.Veth x) (veth_conditions peer) d
 peered_conditions peer well peered.Wireguard d =

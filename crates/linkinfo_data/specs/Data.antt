@@ -22,7 +22,7 @@ use Rattle.linkinfo_data.specs.TunnelData.{tunnels_data_of, tunnels_known}
 abbrev pub family_of : KindTag → DataFamily
 -- Begin: written by tables/generate from tables/kinds.
 family_of tag.Bridge = of.Lower lower.Bridge
-family_of tag.Tun = of.Peered peered.Tun
+family_of tag.Tun = of.Lower lower.Tun
 family_of tag.Vlan = of.Lower lower.Vlan
 family_of tag.Veth = of.Peered peered.Veth
 family_of tag.Vxlan = of.Tunnel tunnel.Vxlan
@@ -68,7 +68,7 @@ abbrev pub data_of : {t : Types} → Families t → DataFamily → Payload (Data
 data_of layer (of.Lower f) = lower_data_of layer f
 data_of layer (of.Device f) = devices_data_of (types_of layer) f
 data_of layer (of.Tunnel f) = tunnels_data_of (types_of layer) f
-data_of layer (of.Peered f) = peers_data_of layer f
+data_of layer (of.Peered f) = peers_data_of (types_of layer) layer.peer f
 data_of layer of.Raw = as_bytes (λ bytes. info.Other bytes)
 
 pub data_known : {t : Types} (layer : Families t) (f : DataFamily) →
@@ -76,5 +76,5 @@ pub data_known : {t : Types} (layer : Families t) (f : DataFamily) →
 data_known layer (of.Lower f) = lower_known layer f
 data_known layer (of.Device f) = devices_known (types_of layer) f
 data_known layer (of.Tunnel f) = tunnels_known (types_of layer) f
-data_known layer (of.Peered f) = peers_known layer f
+data_known layer (of.Peered f) = peers_known (types_of layer) layer.peer f
 data_known layer of.Raw = λ p. refl

@@ -26,21 +26,14 @@ pub record DataFamilies (t : DataTypes) : Type 1 where
   -- the canonical payload of port data
   pub port_data_payload : t.PortData → List ℕ
 
--- those by the families that are supplied, of any layer
-abbrev pub types_at : Type 0 → Types → DataTypes
-types_at layer t = record { Layer = layer; Data = DataOf t; PortData = PortDataOf t }
+-- those of the layer that supplies these families
+abbrev pub data_types : Types → DataTypes
+data_types t = record { Layer = t.Layer; Data = DataOf t; PortData = PortDataOf t }
 
-abbrev pub families_at : (layer : Type 0) {t : Types} → Families t → DataFamilies (types_at layer t)
-families_at layer f = record {
+abbrev pub data_families : {t : Types} → Families t → DataFamilies (data_types t)
+data_families f = record {
   data_of = data_of f;
   data_payload = data_payload f;
   port_data_of = port_data_of f;
   port_data_payload = port_data_payload f;
 }
-
--- those of the layer that supplies them
-abbrev pub data_types : Types → DataTypes
-data_types t = types_at t.Layer t
-
-abbrev pub data_families : {t : Types} → Families t → DataFamilies (data_types t)
-data_families {t = t} f = families_at t.Layer f

@@ -62,6 +62,8 @@ data_lawful layer is =
       -- Begin: written by tables/generate from tables/kinds (lower).
       | lower.Bridge ↦ as_list_is_lawful layer.bridge is.bridge.laws (λ xs. info.Bridge xs)
           (data_payload layer) (λ _. refl) (λ x y e. cc)
+      | lower.Tun ↦ as_list_is_lawful layer.tun is.tun.laws (λ xs. info.Tun xs)
+          (data_payload layer) (λ _. refl) (λ x y e. cc)
       | lower.Vlan ↦ as_list_is_lawful layer.vlan is.vlan.laws (λ xs. info.Vlan xs)
           (data_payload layer) (λ _. refl) (λ x y e. cc)
       | lower.Bond ↦ as_list_is_lawful layer.bond is.bond.laws (λ xs. info.Bond xs)
@@ -131,10 +133,8 @@ data_lawful layer is =
       -- End: written by tables/generate.
     ] in
     let peered_ones : (f : PeeredFamily) →
-    IsLawful (peers_data_of layer f) (data_payload layer) = elim [
+    IsLawful (peers_data_of (types_of layer) layer.peer f) (data_payload layer) = elim [
       -- Begin: written by tables/generate from tables/kinds (peered).
-      | peered.Tun ↦ as_list_is_lawful layer.tun is.tun.laws (λ xs. info.Tun xs)
-          (data_payload layer) (λ _. refl) (λ x y e. cc)
       | peered.Veth ↦ as_first_is_lawful (veth_members layer.peer)
           ((veth_lawful layer.peer is.peer).laws family.Veth peer_contents false
           (peer_contained _ _))

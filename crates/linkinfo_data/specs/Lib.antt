@@ -23,3 +23,5 @@ pub mod PeerLayer
 pub mod Plain
 pub mod PortData
 pub mod TunnelData
+pub mod TypedLayer
+pub mod TypedTypes

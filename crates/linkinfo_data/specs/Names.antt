@@ -29,6 +29,7 @@ use Rattle.linkinfo_data.specs.declared.tunnels.TunnelFamily.TheVariants as tunn
 abbrev pub lower_name : {t : Types} → Families t → LowerFamily → Family
 -- Begin: written by tables/generate from tables/kinds (lower).
 lower_name layer lower.Bridge = layer.bridge.family
+lower_name layer lower.Tun = layer.tun.family
 lower_name layer lower.Vlan = layer.vlan.family
 lower_name layer lower.Bond = layer.bond.family
 lower_name layer lower.Hsr = layer.hsr.family
@@ -71,7 +72,6 @@ tunnel_name layer tunnel.Ip6ErSpan = family.Gre6
 
 abbrev pub peered_name : {t : Types} → Families t → PeeredFamily → Family
 -- Begin: written by tables/generate from tables/kinds (peered).
-peered_name layer peered.Tun = layer.tun.family
 peered_name layer peered.Veth = family.Veth
 peered_name layer peered.Wireguard = family.Wireguard
 peered_name layer peered.Netkit = family.Netkit
@@ -101,6 +101,7 @@ port_data_name layer port_data.Raw = None
 abbrev pub lower_inner : {t : Types} → Families t → LowerFamily → List Family
 -- Begin: written by tables/generate from tables/kinds (lower inside).
 lower_inner layer lower.Bridge = layer.bridge.inner
+lower_inner layer lower.Tun = layer.tun.inner
 lower_inner layer lower.Vlan = layer.vlan.inner
 lower_inner layer lower.Bond = layer.bond.inner
 lower_inner layer lower.Hsr = layer.hsr.inner
@@ -109,24 +110,11 @@ lower_inner layer lower.Dsa = layer.dsa.inner
 
 -- End: written by tables/generate.
 
-abbrev pub peered_inner : {t : Types} → Families t → PeeredFamily → List Family
--- Begin: written by tables/generate from tables/kinds (peered inside).
-peered_inner layer peered.Tun = layer.tun.inner
-peered_inner layer peered.Veth = []
-peered_inner layer peered.Wireguard = []
-peered_inner layer peered.Netkit = []
-peered_inner layer peered.Vxcan = []
-peered_inner layer peered.BatAdv = []
-peered_inner layer peered.Wwan = []
-peered_inner layer peered.Pfcp = []
-
--- End: written by tables/generate.
-
 abbrev pub data_inner : {t : Types} → Families t → DataFamily → List Family
 data_inner layer (of.Lower f) = lower_inner layer f
 data_inner layer (of.Device f) = []
 data_inner layer (of.Tunnel f) = []
-data_inner layer (of.Peered f) = peered_inner layer f
+data_inner layer (of.Peered f) = []
 data_inner layer of.Raw = []
 
 abbrev pub port_data_inner : {t : Types} → Families t → PortFamily → List Family

@@ -1,7 +1,8 @@
--- Data of veth, vxcan, netkit, tun, wireguard, batadv, wwan and pfcp links: what payloads mean
--- under each family, and the variant that holds it.
+-- Data of veth, vxcan, netkit, wireguard, batadv, wwan and pfcp links: what payloads mean under each
+-- family, and the variant that holds it.
 use Rattle.linkinfo_peers.specs.PeerMembers.{netkit_members, veth_members, vxcan_members}
-use Rattle.linkinfo_table.specs.Layers.{Families, Types}
+use Rattle.linkinfo_table.specs.Layers.{Types}
+use Rattle.linkinfo_table.specs.declared.peer.LinkPeer.{Ghosts}
 use Rattle.linkinfo_data.specs.Layered.{DataOf}
 use Rattle.linkinfo_data.specs.declared.info_data.InfoDataOf.TheVariants as info
 use Rattle.linkinfo_data.specs.declared.peers.PeeredFamily.{PeeredFamily}
@@ -10,29 +11,27 @@ use Rattle.linkinfo_data.specs.Known.{IsKnown, first_is_known, list_is_known}
 use Rattle.linkinfo_data.specs.Payloads.{Payload, as_list, as_first}
 use Rattle.linkinfo_data.specs.Plain.{plain}
 
-abbrev pub peers_data_of : {t : Types} → Families t → PeeredFamily → Payload (DataOf t)
+abbrev pub peers_data_of : (t : Types) → Ghosts t.Peer → PeeredFamily → Payload (DataOf t)
 -- Begin: written by tables/generate from tables/kinds (data).
-peers_data_of layer of.Tun = as_list layer.tun (λ xs. info.Tun xs)
-peers_data_of layer of.Veth = as_first (veth_members layer.peer) (λ x. info.Veth x)
-peers_data_of layer of.Wireguard = as_list plain.wireguard (λ xs. info.Wireguard xs)
-peers_data_of layer of.Netkit = as_list (netkit_members layer.peer) (λ xs. info.Netkit xs)
-peers_data_of layer of.Vxcan = as_first (vxcan_members layer.peer) (λ x. info.Vxcan x)
-peers_data_of layer of.BatAdv = as_list plain.bat_adv (λ xs. info.BatAdv xs)
-peers_data_of layer of.Wwan = as_list plain.wwan (λ xs. info.Wwan xs)
-peers_data_of layer of.Pfcp = as_list plain.pfcp (λ xs. info.Pfcp xs)
+peers_data_of t peer of.Veth = as_first (veth_members peer) (λ x. info.Veth x)
+peers_data_of t peer of.Wireguard = as_list plain.wireguard (λ xs. info.Wireguard xs)
+peers_data_of t peer of.Netkit = as_list (netkit_members peer) (λ xs. info.Netkit xs)
+peers_data_of t peer of.Vxcan = as_first (vxcan_members peer) (λ x. info.Vxcan x)
+peers_data_of t peer of.BatAdv = as_list plain.bat_adv (λ xs. info.BatAdv xs)
+peers_data_of t peer of.Wwan = as_list plain.wwan (λ xs. info.Wwan xs)
+peers_data_of t peer of.Pfcp = as_list plain.pfcp (λ xs. info.Pfcp xs)
 
 -- End: written by tables/generate.
 
-pub peers_known : {t : Types} (layer : Families t) (f : PeeredFamily) →
-    IsKnown (peers_data_of layer f)
+pub peers_known : (t : Types) (peer : Ghosts t.Peer) (f : PeeredFamily) →
+    IsKnown (peers_data_of t peer f)
 -- Begin: written by tables/generate from tables/kinds (known).
-peers_known layer of.Tun = list_is_known layer.tun (λ xs. info.Tun xs)
-peers_known layer of.Veth = first_is_known (veth_members layer.peer) (λ x. info.Veth x)
-peers_known layer of.Wireguard = list_is_known plain.wireguard (λ xs. info.Wireguard xs)
-peers_known layer of.Netkit = list_is_known (netkit_members layer.peer) (λ xs. info.Netkit xs)
-peers_known layer of.Vxcan = first_is_known (vxcan_members layer.peer) (λ x. info.Vxcan x)
-peers_known layer of.BatAdv = list_is_known plain.bat_adv (λ xs. info.BatAdv xs)
-peers_known layer of.Wwan = list_is_known plain.wwan (λ xs. info.Wwan xs)
-peers_known layer of.Pfcp = list_is_known plain.pfcp (λ xs. info.Pfcp xs)
+peers_known t peer of.Veth = first_is_known (veth_members peer) (λ x. info.Veth x)
+peers_known t peer of.Wireguard = list_is_known plain.wireguard (λ xs. info.Wireguard xs)
+peers_known t peer of.Netkit = list_is_known (netkit_members peer) (λ xs. info.Netkit xs)
+peers_known t peer of.Vxcan = first_is_known (vxcan_members peer) (λ x. info.Vxcan x)
+peers_known t peer of.BatAdv = list_is_known plain.bat_adv (λ xs. info.BatAdv xs)
+peers_known t peer of.Wwan = list_is_known plain.wwan (λ xs. info.Wwan xs)
+peers_known t peer of.Pfcp = list_is_known plain.pfcp (λ xs. info.Pfcp xs)
 
 -- End: written by tables/generate.

@@ -62,7 +62,7 @@ pub fn family_of(tag: KindTag) -> DataFamily
     match tag {
         // Begin: written by tables/generate from tables/kinds.
         KindTag::Bridge => DataFamily::Lower(LowerFamily::Bridge),
-        KindTag::Tun => DataFamily::Peered(PeeredFamily::Tun),
+        KindTag::Tun => DataFamily::Lower(LowerFamily::Tun),
         KindTag::Vlan => DataFamily::Lower(LowerFamily::Vlan),
         KindTag::Veth => DataFamily::Peered(PeeredFamily::Veth),
         KindTag::Vxlan => DataFamily::Tunnel(TunnelFamily::Vxlan),

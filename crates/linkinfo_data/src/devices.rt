@@ -1,6 +1,6 @@
 //! Data of ipvlan, ipvtap, macvlan, macvtap, vrf, ipoib, xfrm, macsec and rmnet links.
 
-ghost use Rattle.linkinfo_data.specs.Layered.{types_of};
+ghost use Rattle.linkinfo_data.specs.Layered.{layer_types};
 ghost use Rattle.linkinfo_data.specs.DeviceData.{devices_data_of, devices_known};
 
 use crate::ask::Ask;
@@ -13,7 +13,7 @@ use linkinfo_devices::{
     InfoXfrm,
 };
 // End: written by tables/generate.
-use linkinfo_table::{LayerFamilies, LinkLayer, Supplied};
+use linkinfo_table::LinkLayer;
 use nla_frame::{DecodeError, ExactEq, HeaderCount};
 use std::alloc::Global;
 
@@ -70,23 +70,14 @@ macro_rules! of_device {
     };
 }
 
-impl<P: LinkLayer> PayloadFamily<P> for DeviceFamily
-where
-    P::Bond: Supplied,
-    P::Bridge: Supplied,
-    P::Vlan: Supplied,
-    P::Can: Supplied,
-    P::Hsr: Supplied,
-    P::Dsa: Supplied,
-    P::Tun: Supplied,
-    P::BondPort: Supplied,
-    P::BridgePort: Supplied,
-{
+impl<P: LinkLayer> PayloadFamily<P> for DeviceFamily {
     type Data = InfoDataOf<P>;
 
-    ghost data_of = { λ family. devices_data_of (types_of ⟦<P as LayerFamilies>⟧.families) family };
+    ghost data_of = { devices_data_of (layer_types P P.Peer P.Bond P.Bridge P.Vlan P.Can P.Hsr
+        P.Dsa P.Tun P.BondPort P.BridgePort) };
 
-    ghost known = { λ family. devices_known (types_of ⟦<P as LayerFamilies>⟧.families) family };
+    ghost known = { devices_known (layer_types P P.Peer P.Bond P.Bridge P.Vlan P.Can P.Hsr
+        P.Dsa P.Tun P.BondPort P.BridgePort) };
 
     fn read(
         self,

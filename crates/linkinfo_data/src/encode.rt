@@ -9,7 +9,7 @@ ghost use Rattle.linkinfo_data.specs.Encoding.{HasRoom, IsFitLen};
 use nla_frame::{Nla, Nlas, fitting, nlas_fit_len, write_attribute, write_attributes, write_bytes};
 
 /// What is made of an encoding. It may be written to a buffer.
-pub(crate) trait Encode: Sized {
+pub trait Encode: Sized {
     /// What is returned.
     type Answer;
 
@@ -37,7 +37,7 @@ pub(crate) trait Encode: Sized {
 
 /// Returns the length of the encoding, or `None` if it does not fit a payload.
 #[derive(Clone, Copy)]
-pub(crate) struct FitLen;
+pub struct FitLen;
 
 impl Encode for FitLen {
     type Answer = Option<usize>;
@@ -63,7 +63,7 @@ impl Encode for FitLen {
 /// Writes the encoding to the front of the buffer, and returns its length. Requires that it fits a
 /// payload, and that the buffer has room for it. The rest of the buffer is unchanged.
 #[derive(Clone, Copy)]
-pub(crate) struct Write;
+pub struct Write;
 
 impl Encode for Write {
     type Answer = usize;

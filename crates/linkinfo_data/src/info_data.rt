@@ -2,12 +2,10 @@
 
 ghost use Rattle.nla_frame.specs.Answers.{CertainUnless, Gives};
 ghost use Rattle.linkinfo_numbers.specs.Kind.{tag_of_kind};
-ghost use Rattle.linkinfo_data.specs.Data.{data_of, family_of};
-ghost use Rattle.linkinfo_data.specs.InfoData.{data_payload};
+ghost use Rattle.linkinfo_data.specs.Data.{family_of};
 
 use crate::data::family_of;
-use crate::encode::Encode;
-use crate::layer::LayerCalls;
+use crate::layer::DataLayer;
 // Begin: written by tables/generate from tables/kinds (device).
 use linkinfo_devices::{
     InfoIpVlan, InfoIpVtap, InfoIpoib, InfoMacSec, InfoMacVlan, InfoMacVtap, InfoRmNet, InfoVrf,
@@ -20,7 +18,7 @@ use linkinfo_peers::{
     InfoBatAdv, InfoNetkitOf, InfoPfcp, InfoVethOf, InfoVxcanOf, InfoWireguard, InfoWwan,
 };
 // End: written by tables/generate.
-use linkinfo_table::{LayerFamilies, LinkLayer, Supplied};
+use linkinfo_table::LinkLayer;
 // Begin: written by tables/generate from tables/kinds (tunnel).
 use linkinfo_tunnels::{
     InfoAmt, InfoBareUdp, InfoGeneve, InfoGre, InfoGre6, InfoGtp, InfoIpTunnel, InfoVti, InfoVxlan,
@@ -115,18 +113,7 @@ pub enum InfoDataOf<P: LinkLayer> {
 /// The data of a link (`IFLA_INFO_DATA`), with peers kept as bytes, and opaque families.
 pub type InfoData = InfoDataOf<Bytes>;
 
-impl<P: LinkLayer> InfoDataOf<P>
-where
-    P::Bond: Supplied,
-    P::Bridge: Supplied,
-    P::Vlan: Supplied,
-    P::Can: Supplied,
-    P::Hsr: Supplied,
-    P::Dsa: Supplied,
-    P::Tun: Supplied,
-    P::BondPort: Supplied,
-    P::BridgePort: Supplied,
-{
+impl<P: LinkLayer + DataLayer<Data = InfoDataOf<P>>> InfoDataOf<P> {
     /// Parses the payload of `IFLA_INFO_DATA` of a link of this kind.
     ///
     /// The result holds the attributes of the kind's family, or the bytes if the kind has none.
@@ -142,98 +129,71 @@ where
         kind: &InfoKind,
     ) -> Result<InfoDataOf<P>, DecodeError>
         ensures answer { Gives (λ value. value) result
-            ((data_of ⟦<P as LayerFamilies>⟧.families
-            (family_of (tag_of_kind kind.now))).means payload.now) }
-        ensures certain { CertainUnless ((data_of ⟦<P as LayerFamilies>⟧.families
-            (family_of (tag_of_kind kind.now))).needs_memory payload.now) (λ value. value) result
-            ((data_of ⟦<P as LayerFamilies>⟧.families
-            (family_of (tag_of_kind kind.now))).means payload.now) }
+            ((P.families.data_of (family_of (tag_of_kind kind.now))).means payload.now) }
+        ensures certain { CertainUnless
+            ((P.families.data_of (family_of (tag_of_kind kind.now))).needs_memory payload.now)
+            (λ value. value) result
+            ((P.families.data_of (family_of (tag_of_kind kind.now))).means payload.now) }
     {
         let mut count = HeaderCount::new();
-        P::layer_read_data(family_of(kind.tag()), alloc, payload, &mut count)
+        P::read_data(family_of(kind.tag()), alloc, payload, &mut count)
     }
 }
 
-impl<P: LinkLayer> InfoDataOf<P>
-where
-    P::Bond: Supplied,
-    P::Bridge: Supplied,
-    P::Vlan: Supplied,
-    P::Can: Supplied,
-    P::Hsr: Supplied,
-    P::Dsa: Supplied,
-    P::Tun: Supplied,
-    P::BondPort: Supplied,
-    P::BridgePort: Supplied,
-{
-    /// Encodes the data: the encodings of the attributes, one after another, or the bytes.
-    #[tactic(auto, unfolding(crate::specs::InfoData::data_payload))]
-    pub(crate) fn encode<E: Encode>(&self, encode: E, buffer: &mut [u8]) -> E::Answer
-        requires { E.ready (data_payload ⟦<P as LayerFamilies>⟧.families self.now) buffer.old }
-        ensures { E.answered (data_payload ⟦<P as LayerFamilies>⟧.families self.now) buffer.old
-            buffer.new result }
-    {
-        match self {
+/// Encodes data, as `DataLayer::encode_data` does: the encodings of the attributes, one after
+/// another, or the bytes.
+macro_rules! encode_data {
+    ($value:expr, $encode:expr, $buffer:expr) => {
+        match $value {
             // Begin: written by tables/generate from tables/kinds (encoding).
-            InfoDataOf::Bridge(list) => encode.list(list, buffer),
-            InfoDataOf::Tun(list) => encode.list(list, buffer),
-            InfoDataOf::Vlan(list) => encode.list(list, buffer),
-            InfoDataOf::Veth(nla) => encode.one(nla, buffer),
-            InfoDataOf::Vxlan(list) => encode.list(list, buffer),
-            InfoDataOf::Bond(list) => encode.list(list, buffer),
-            InfoDataOf::IpVlan(list) => encode.list(list, buffer),
-            InfoDataOf::IpVtap(list) => encode.list(list, buffer),
-            InfoDataOf::MacVlan(list) => encode.list(list, buffer),
-            InfoDataOf::MacVtap(list) => encode.list(list, buffer),
-            InfoDataOf::GreTap(list) => encode.list(list, buffer),
-            InfoDataOf::GreTap6(list) => encode.list(list, buffer),
-            InfoDataOf::IpTunnel(list) => encode.list(list, buffer),
-            InfoDataOf::GreTun(list) => encode.list(list, buffer),
-            InfoDataOf::GreTun6(list) => encode.list(list, buffer),
-            InfoDataOf::Vti(list) => encode.list(list, buffer),
-            InfoDataOf::Vrf(list) => encode.list(list, buffer),
-            InfoDataOf::Gtp(list) => encode.list(list, buffer),
-            InfoDataOf::Ipoib(list) => encode.list(list, buffer),
-            InfoDataOf::Wireguard(list) => encode.list(list, buffer),
-            InfoDataOf::Xfrm(list) => encode.list(list, buffer),
-            InfoDataOf::MacSec(list) => encode.list(list, buffer),
-            InfoDataOf::Hsr(list) => encode.list(list, buffer),
-            InfoDataOf::Geneve(list) => encode.list(list, buffer),
-            InfoDataOf::Netkit(list) => encode.list(list, buffer),
-            InfoDataOf::Vxcan(nla) => encode.one(nla, buffer),
-            InfoDataOf::Amt(list) => encode.list(list, buffer),
-            InfoDataOf::BatAdv(list) => encode.list(list, buffer),
-            InfoDataOf::BareUdp(list) => encode.list(list, buffer),
-            InfoDataOf::Wwan(list) => encode.list(list, buffer),
-            InfoDataOf::Can(list) => encode.list(list, buffer),
-            InfoDataOf::Dsa(list) => encode.list(list, buffer),
-            InfoDataOf::ErSpan(list) => encode.list(list, buffer),
-            InfoDataOf::Ip6ErSpan(list) => encode.list(list, buffer),
-            InfoDataOf::Pfcp(list) => encode.list(list, buffer),
-            InfoDataOf::RmNet(list) => encode.list(list, buffer),
+            InfoDataOf::Bridge(list) => $encode.list(list, $buffer),
+            InfoDataOf::Tun(list) => $encode.list(list, $buffer),
+            InfoDataOf::Vlan(list) => $encode.list(list, $buffer),
+            InfoDataOf::Veth(nla) => $encode.one(nla, $buffer),
+            InfoDataOf::Vxlan(list) => $encode.list(list, $buffer),
+            InfoDataOf::Bond(list) => $encode.list(list, $buffer),
+            InfoDataOf::IpVlan(list) => $encode.list(list, $buffer),
+            InfoDataOf::IpVtap(list) => $encode.list(list, $buffer),
+            InfoDataOf::MacVlan(list) => $encode.list(list, $buffer),
+            InfoDataOf::MacVtap(list) => $encode.list(list, $buffer),
+            InfoDataOf::GreTap(list) => $encode.list(list, $buffer),
+            InfoDataOf::GreTap6(list) => $encode.list(list, $buffer),
+            InfoDataOf::IpTunnel(list) => $encode.list(list, $buffer),
+            InfoDataOf::GreTun(list) => $encode.list(list, $buffer),
+            InfoDataOf::GreTun6(list) => $encode.list(list, $buffer),
+            InfoDataOf::Vti(list) => $encode.list(list, $buffer),
+            InfoDataOf::Vrf(list) => $encode.list(list, $buffer),
+            InfoDataOf::Gtp(list) => $encode.list(list, $buffer),
+            InfoDataOf::Ipoib(list) => $encode.list(list, $buffer),
+            InfoDataOf::Wireguard(list) => $encode.list(list, $buffer),
+            InfoDataOf::Xfrm(list) => $encode.list(list, $buffer),
+            InfoDataOf::MacSec(list) => $encode.list(list, $buffer),
+            InfoDataOf::Hsr(list) => $encode.list(list, $buffer),
+            InfoDataOf::Geneve(list) => $encode.list(list, $buffer),
+            InfoDataOf::Netkit(list) => $encode.list(list, $buffer),
+            InfoDataOf::Vxcan(nla) => $encode.one(nla, $buffer),
+            InfoDataOf::Amt(list) => $encode.list(list, $buffer),
+            InfoDataOf::BatAdv(list) => $encode.list(list, $buffer),
+            InfoDataOf::BareUdp(list) => $encode.list(list, $buffer),
+            InfoDataOf::Wwan(list) => $encode.list(list, $buffer),
+            InfoDataOf::Can(list) => $encode.list(list, $buffer),
+            InfoDataOf::Dsa(list) => $encode.list(list, $buffer),
+            InfoDataOf::ErSpan(list) => $encode.list(list, $buffer),
+            InfoDataOf::Ip6ErSpan(list) => $encode.list(list, $buffer),
+            InfoDataOf::Pfcp(list) => $encode.list(list, $buffer),
+            InfoDataOf::RmNet(list) => $encode.list(list, $buffer),
             // End: written by tables/generate.
-            InfoDataOf::Other(bytes) => encode.bytes(bytes.as_slice(), buffer),
+            InfoDataOf::Other(bytes) => $encode.bytes(bytes.as_slice(), $buffer),
         }
-    }
+    };
 }
+
+pub(crate) use encode_data;
 
 /// Written as an attribute of type 2 (`IFLA_INFO_DATA`). The payload is the encodings of the
 /// attributes, one after another.
-impl<P: LinkLayer> Nla for InfoDataOf<P>
-where
-    P::Bond: Supplied,
-    P::Bridge: Supplied,
-    P::Vlan: Supplied,
-    P::Can: Supplied,
-    P::Hsr: Supplied,
-    P::Dsa: Supplied,
-    P::Tun: Supplied,
-    P::BondPort: Supplied,
-    P::BridgePort: Supplied,
-{
-    ghost use Rattle.linkinfo_data.specs.InfoData.{data_attribute};
-
-    ghost attribute = { data_attribute ⟦<P as LayerFamilies>⟧.families };
+impl<P: LinkLayer + DataLayer<Data = InfoDataOf<P>>> Nla for InfoDataOf<P> {
+    ghost attribute = { λ d. record { kind = 2; value = P.families.data_payload d } };
 
     fn value_len(&self) -> usize {
         self.fit_len().unwrap_or(0)
@@ -244,7 +204,7 @@ where
     }
 
     fn emit_payload(&self, buffer: &mut [u8]) -> usize {
-        P::layer_write_data(self, buffer)
+        P::write_data(self, buffer)
     }
 
     #[tactic(auto, using(nla_frame::proofs::Emitting::whole))]
@@ -253,7 +213,7 @@ where
     }
 
     fn fit_len(&self) -> Option<usize> {
-        P::layer_data_fit_len(self)
+        P::data_fit_len(self)
     }
 }
 

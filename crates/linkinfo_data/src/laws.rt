@@ -10,10 +10,11 @@ ghost use Rattle.linkinfo_data.specs.DataFamilies.{data_families};
 ghost use Rattle.linkinfo_data.specs.Lawful.{AreLawful};
 ghost use Rattle.linkinfo_data.specs.Located.{AreLocated};
 ghost use Rattle.linkinfo_data.specs.Names.{AreNamed, AreNamedAfter};
+ghost use Rattle.linkinfo_table.specs.Layers.{IsSupplied};
 
 use crate::layer::DataLayer;
 use linkinfo_table::layer_laws::lawful;
-use linkinfo_table::{LayerFamilies, LinkLayer, LinkPeer, Supplied};
+use linkinfo_table::{LayerFamilies, LinkLayer, LinkPeer, ListedFamily, Supplied};
 
 /// Data and port data of each family are lawful: by the laws of the rows of the family, or by those
 /// of the layer that supplies it.
@@ -39,6 +40,12 @@ where
 {
     lawful::<L>();
 }
+
+/// A family that a layer supplies is lawful, and each error of a list of its attributes either is
+/// `(Frame, 0, Header)` or has its name or that of a family inside.
+pub fn supplied_lawful<F: Supplied>()
+    ensures { IsSupplied (⟦<F as ListedFamily>⟧.members tt) }
+{}
 
 /// Each error of data of a family is `(Frame, 0, Header)`, or names the family or one of those
 /// inside it. The same holds for port data. The families' names are in the tables `data_name` and

@@ -4,26 +4,23 @@
 ghost use Rattle.std.specs.Prelude.{◌+◌, ◌/◌, ◌<◌, ◌^◌, length};
 ghost use Rattle.nla_frame.specs.Writing.{Writes};
 ghost use Rattle.linkinfo_table.specs.Calls.{Reads};
-ghost use Rattle.linkinfo_table.specs.Layers.{Families};
 ghost use Rattle.linkinfo_data.specs.Asking.{facts_of};
-ghost use Rattle.linkinfo_data.specs.Data.{data_of};
 ghost use Rattle.linkinfo_data.specs.DataFamilies.{DataFamilies};
 ghost use Rattle.linkinfo_data.specs.Encoding.{HasRoom, IsFitLen};
-ghost use Rattle.linkinfo_data.specs.InfoData.{data_payload};
 ghost use Rattle.linkinfo_data.specs.Known.{IsKnown};
 ghost use Rattle.linkinfo_data.specs.Lawful.{AreLawful};
-ghost use Rattle.linkinfo_data.specs.PortData.{port_data_of, port_data_payload};
 ghost use Rattle.linkinfo_data.specs.declared.data.DataFamily.{DataFamily};
 ghost use Rattle.linkinfo_data.specs.declared.port_data.PortFamily.{PortFamily};
 
 use crate::ask::Ask;
 use crate::calls::{ask, read};
 use crate::data::DataFamily;
-use crate::encode::{FitLen, Write};
-use crate::info_data::InfoDataOf;
+use crate::encode::{Encode, FitLen, Write};
+use crate::info_data::{InfoDataOf, encode_data};
 use crate::laws::families_lawful_by;
+use crate::lower::{LowerFamily, of_lower};
 use crate::payload_family::PayloadFamily;
-use crate::port_data::{InfoPortDataOf, PortFamily};
+use crate::port_data::{InfoPortDataOf, PortFamily, encode_port_data, of_port};
 use linkinfo_devices::InfoVrfPort;
 use linkinfo_peers::InfoTeamPort;
 use linkinfo_table::{LayerFamilies, LinkLayer, LinkPeer, Supplied};
@@ -75,14 +72,25 @@ pub trait DataLayer: Eq + Sized {
         ensures { Q.answered (facts_of (families.data_of family)) question count.old count.new
             buffer.old buffer.new result };
 
+    /// Encodes data: makes a call on its canonical payload.
+    fn encode_data<E: Encode>(value: &Self::Data, encode: E, buffer: &mut [u8]) -> E::Answer
+        requires { E.ready (families.data_payload value.now) buffer.old }
+        ensures { E.answered (families.data_payload value.now) buffer.old buffer.new result };
+
     /// Returns the length of the canonical payload of data, or `None` if it does not fit.
     fn data_fit_len(value: &Self::Data) -> Option<usize>
-        ensures { IsFitLen (families.data_payload value.now) result };
+        ensures { IsFitLen (families.data_payload value.now) result }
+    {
+        Self::encode_data(value, FitLen, &mut [])
+    }
 
     /// Writes the canonical payload of data to the front of the buffer, and returns its length.
     fn write_data(value: &Self::Data, buffer: &mut [u8]) -> usize
         requires { HasRoom (families.data_payload value.now) buffer.old }
-        ensures { Writes (families.data_payload value.now) buffer.old buffer.new result };
+        ensures { Writes (families.data_payload value.now) buffer.old buffer.new result }
+    {
+        Self::encode_data(value, Write, buffer)
+    }
 
     /// Parses a payload as port data of a family, as `PayloadFamily::read` does.
     fn read_port_data(
@@ -109,15 +117,30 @@ pub trait DataLayer: Eq + Sized {
         ensures { Q.answered (facts_of (families.port_data_of family)) question count.old count.new
             buffer.old buffer.new result };
 
+    /// Encodes port data: makes a call on its canonical payload.
+    fn encode_port_data<E: Encode>(
+        value: &Self::PortData,
+        encode: E,
+        buffer: &mut [u8],
+    ) -> E::Answer
+        requires { E.ready (families.port_data_payload value.now) buffer.old }
+        ensures { E.answered (families.port_data_payload value.now) buffer.old buffer.new result };
+
     /// Returns the length of the canonical payload of port data, or `None` if it does not fit.
     fn port_data_fit_len(value: &Self::PortData) -> Option<usize>
-        ensures { IsFitLen (families.port_data_payload value.now) result };
+        ensures { IsFitLen (families.port_data_payload value.now) result }
+    {
+        Self::encode_port_data(value, FitLen, &mut [])
+    }
 
     /// Writes the canonical payload of port data to the front of the buffer, and returns its
     /// length.
     fn write_port_data(value: &Self::PortData, buffer: &mut [u8]) -> usize
         requires { HasRoom (families.port_data_payload value.now) buffer.old }
-        ensures { Writes (families.port_data_payload value.now) buffer.old buffer.new result };
+        ensures { Writes (families.port_data_payload value.now) buffer.old buffer.new result }
+    {
+        Self::encode_port_data(value, Write, buffer)
+    }
 
     /// Data and port data of each family are lawful.
     fn lawful()
@@ -128,190 +151,6 @@ pub trait DataLayer: Eq + Sized {
 
     /// The same of port data.
     ghost port_data_known: { (family : PortFamily) → IsKnown (families.port_data_of family) };
-}
-
-/// The calls on the data and port data of a `LinkLayer`, by the families that it supplies. Every
-/// `LinkLayer` implements it, and no other type does. What implements `DataLayer` calls these, so
-/// that who calls `DataLayer` carries two types in place of ten.
-pub trait LayerCalls: LinkLayer {
-    /// What the peer and the families of the layer define.
-    ghost families: { Families (record {
-      Layer = Self;
-      Peer = Self.Peer;
-      Bond = Self.Bond;
-      Bridge = Self.Bridge;
-      Vlan = Self.Vlan;
-      Can = Self.Can;
-      Hsr = Self.Hsr;
-      Dsa = Self.Dsa;
-      Tun = Self.Tun;
-      BondPort = Self.BondPort;
-      BridgePort = Self.BridgePort;
-    }) };
-
-    /// Parses a payload as data of a family, as `PayloadFamily::read` does.
-    fn layer_read_data(
-        family: DataFamily,
-        alloc: Global,
-        payload: &[u8],
-        count: &mut HeaderCount,
-    ) -> Result<InfoDataOf<Self>, DecodeError>
-        requires { count.old + length payload.now / 4 < 2 ^ 64 }
-        ensures { Reads (λ value. value) result ((data_of families family).means payload.now)
-            ((data_of families family).needs_memory payload.now)
-            ((data_of families family).headers payload.now)
-            (length payload.now) count.old count.new };
-
-    /// Makes a call that returns no parsed value, for payloads of data of a family. Does not
-    /// allocate.
-    fn layer_ask_data<Q: Ask>(
-        family: DataFamily,
-        question: Q,
-        count: &mut HeaderCount,
-        buffer: &mut [u8],
-    ) -> Q::Answer
-        requires { Q.ready (facts_of (data_of families family)) question count.old buffer.old }
-        ensures { Q.answered (facts_of (data_of families family)) question count.old count.new
-            buffer.old buffer.new result };
-
-    /// Returns the length of the canonical payload of data, or `None` if it does not fit.
-    fn layer_data_fit_len(value: &InfoDataOf<Self>) -> Option<usize>
-        ensures { IsFitLen (data_payload families value.now) result };
-
-    /// Writes the canonical payload of data to the front of the buffer, and returns its length.
-    fn layer_write_data(value: &InfoDataOf<Self>, buffer: &mut [u8]) -> usize
-        requires { HasRoom (data_payload families value.now) buffer.old }
-        ensures { Writes (data_payload families value.now) buffer.old buffer.new result };
-
-    /// Parses a payload as port data of a family, as `PayloadFamily::read` does.
-    fn layer_read_port_data(
-        family: PortFamily,
-        alloc: Global,
-        payload: &[u8],
-        count: &mut HeaderCount,
-    ) -> Result<InfoPortDataOf<Self>, DecodeError>
-        requires { count.old + length payload.now / 4 < 2 ^ 64 }
-        ensures { Reads (λ value. value) result ((port_data_of families family).means payload.now)
-            ((port_data_of families family).needs_memory payload.now)
-            ((port_data_of families family).headers payload.now)
-            (length payload.now) count.old count.new };
-
-    /// Makes a call that returns no parsed value, for payloads of port data of a family. Does not
-    /// allocate.
-    fn layer_ask_port_data<Q: Ask>(
-        family: PortFamily,
-        question: Q,
-        count: &mut HeaderCount,
-        buffer: &mut [u8],
-    ) -> Q::Answer
-        requires { Q.ready (facts_of (port_data_of families family)) question count.old buffer.old }
-        ensures { Q.answered (facts_of (port_data_of families family)) question count.old count.new
-            buffer.old buffer.new result };
-
-    /// Returns the length of the canonical payload of port data, or `None` if it does not fit.
-    fn layer_port_data_fit_len(value: &InfoPortDataOf<Self>) -> Option<usize>
-        ensures { IsFitLen (port_data_payload families value.now) result };
-
-    /// Writes the canonical payload of port data to the front of the buffer, and returns its
-    /// length.
-    fn layer_write_port_data(value: &InfoPortDataOf<Self>, buffer: &mut [u8]) -> usize
-        requires { HasRoom (port_data_payload families value.now) buffer.old }
-        ensures { Writes (port_data_payload families value.now) buffer.old buffer.new result };
-}
-
-/// Matches a family of ports, and expands `$call!`, of `calls`, for its data.
-macro_rules! of_port {
-    ($family:expr, $call:ident $given:tt) => {
-        match $family {
-            PortFamily::Bond => $call!(list(InfoPortDataOf::BondPort, L::BondPort, ()) $given),
-            PortFamily::Bridge =>
-            $call!(list(InfoPortDataOf::BridgePort, L::BridgePort, ()) $given),
-            PortFamily::Vrf => $call!(list(InfoPortDataOf::VrfPort, InfoVrfPort, ()) $given),
-            PortFamily::Team => $call!(list(InfoPortDataOf::TeamPort, InfoTeamPort, ()) $given),
-            PortFamily::Raw => $call!(bytes(InfoPortDataOf::Other) $given),
-        }
-    };
-}
-
-impl<L: LinkLayer> LayerCalls for L
-where
-    L::Bond: Supplied,
-    L::Bridge: Supplied,
-    L::Vlan: Supplied,
-    L::Can: Supplied,
-    L::Hsr: Supplied,
-    L::Dsa: Supplied,
-    L::Tun: Supplied,
-    L::BondPort: Supplied,
-    L::BridgePort: Supplied,
-{
-    ghost families = { ⟦<L as LayerFamilies>⟧.families };
-
-    fn layer_read_data(
-        family: DataFamily,
-        alloc: Global,
-        payload: &[u8],
-        count: &mut HeaderCount,
-    ) -> Result<InfoDataOf<L>, DecodeError> {
-        match family {
-            DataFamily::Lower(family) => family.read(alloc, payload, count),
-            DataFamily::Device(family) => family.read(alloc, payload, count),
-            DataFamily::Tunnel(family) => family.read(alloc, payload, count),
-            DataFamily::Peered(family) => family.read(alloc, payload, count),
-            DataFamily::Raw => Ok(InfoDataOf::Other(Bytes::copy_of(alloc, payload)?)),
-        }
-    }
-
-    #[inline(always)]
-    fn layer_ask_data<Q: Ask>(
-        family: DataFamily,
-        question: Q,
-        count: &mut HeaderCount,
-        buffer: &mut [u8],
-    ) -> Q::Answer {
-        match family {
-            DataFamily::Lower(family) => PayloadFamily::<L>::ask(family, question, count, buffer),
-            DataFamily::Device(family) => PayloadFamily::<L>::ask(family, question, count, buffer),
-            DataFamily::Tunnel(family) => PayloadFamily::<L>::ask(family, question, count, buffer),
-            DataFamily::Peered(family) => PayloadFamily::<L>::ask(family, question, count, buffer),
-            DataFamily::Raw => question.of_bytes(count, buffer),
-        }
-    }
-
-    fn layer_data_fit_len(value: &InfoDataOf<L>) -> Option<usize> {
-        value.encode(FitLen, &mut [])
-    }
-
-    fn layer_write_data(value: &InfoDataOf<L>, buffer: &mut [u8]) -> usize {
-        value.encode(Write, buffer)
-    }
-
-    fn layer_read_port_data(
-        family: PortFamily,
-        alloc: Global,
-        payload: &[u8],
-        count: &mut HeaderCount,
-    ) -> Result<InfoPortDataOf<L>, DecodeError> {
-        Ok(of_port!(family, read(alloc, payload, count)))
-    }
-
-    #[inline(always)]
-    fn layer_ask_port_data<Q: Ask>(
-        family: PortFamily,
-        question: Q,
-        count: &mut HeaderCount,
-        buffer: &mut [u8],
-    ) -> Q::Answer {
-        of_port!(family, ask(question, count, buffer))
-    }
-
-    fn layer_port_data_fit_len(value: &InfoPortDataOf<L>) -> Option<usize> {
-        value.encode(FitLen, &mut [])
-    }
-
-    fn layer_write_port_data(value: &InfoPortDataOf<L>, buffer: &mut [u8]) -> usize {
-        value.encode(Write, buffer)
-    }
 }
 
 /// The layer of a peer, whose families are opaque.
@@ -331,9 +170,7 @@ impl<P: LinkPeer> DataLayer for P {
 
     ghost port_data_known = { port_known (peer_families P.LinkPeer.own) };
 
-    fn lawful() {
-        families_lawful_by::<P>();
-    }
+    fn lawful() {}
 
     fn read_data(
         family: DataFamily,
@@ -341,7 +178,13 @@ impl<P: LinkPeer> DataLayer for P {
         payload: &[u8],
         count: &mut HeaderCount,
     ) -> Result<InfoDataOf<P>, DecodeError> {
-        P::layer_read_data(family, alloc, payload, count)
+        match family {
+            DataFamily::Lower(family) => Ok(of_lower!(family, read(alloc, payload, count))),
+            DataFamily::Device(family) => family.read(alloc, payload, count),
+            DataFamily::Tunnel(family) => family.read(alloc, payload, count),
+            DataFamily::Peered(family) => family.read(alloc, payload, count),
+            DataFamily::Raw => Ok(InfoDataOf::Other(Bytes::copy_of(alloc, payload)?)),
+        }
     }
 
     #[inline(always)]
@@ -351,15 +194,24 @@ impl<P: LinkPeer> DataLayer for P {
         count: &mut HeaderCount,
         buffer: &mut [u8],
     ) -> Q::Answer {
-        P::layer_ask_data(family, question, count, buffer)
+        match family {
+            DataFamily::Lower(family) => of_lower!(family, ask(question, count, buffer)),
+            DataFamily::Device(family) => {
+                PayloadFamily::<P>::ask(family, question, count, buffer)
+            }
+            DataFamily::Tunnel(family) => {
+                PayloadFamily::<P>::ask(family, question, count, buffer)
+            }
+            DataFamily::Peered(family) => {
+                PayloadFamily::<P>::ask(family, question, count, buffer)
+            }
+            DataFamily::Raw => question.of_bytes(count, buffer),
+        }
     }
 
-    fn data_fit_len(value: &InfoDataOf<P>) -> Option<usize> {
-        P::layer_data_fit_len(value)
-    }
-
-    fn write_data(value: &InfoDataOf<P>, buffer: &mut [u8]) -> usize {
-        P::layer_write_data(value, buffer)
+    #[tactic(auto, unfolding(crate::specs::InfoData::data_payload))]
+    fn encode_data<E: Encode>(value: &InfoDataOf<P>, encode: E, buffer: &mut [u8]) -> E::Answer {
+        encode_data!(value, encode, buffer)
     }
 
     fn read_port_data(
@@ -368,7 +220,7 @@ impl<P: LinkPeer> DataLayer for P {
         payload: &[u8],
         count: &mut HeaderCount,
     ) -> Result<InfoPortDataOf<P>, DecodeError> {
-        P::layer_read_port_data(family, alloc, payload, count)
+        Ok(of_port!(family, read(alloc, payload, count)))
     }
 
     #[inline(always)]
@@ -378,15 +230,16 @@ impl<P: LinkPeer> DataLayer for P {
         count: &mut HeaderCount,
         buffer: &mut [u8],
     ) -> Q::Answer {
-        P::layer_ask_port_data(family, question, count, buffer)
+        of_port!(family, ask(question, count, buffer))
     }
 
-    fn port_data_fit_len(value: &InfoPortDataOf<P>) -> Option<usize> {
-        P::layer_port_data_fit_len(value)
-    }
-
-    fn write_port_data(value: &InfoPortDataOf<P>, buffer: &mut [u8]) -> usize {
-        P::layer_write_port_data(value, buffer)
+    #[tactic(auto, unfolding(crate::specs::PortData::port_data_payload))]
+    fn encode_port_data<E: Encode>(
+        value: &InfoPortDataOf<P>,
+        encode: E,
+        buffer: &mut [u8],
+    ) -> E::Answer {
+        encode_port_data!(value, encode, buffer)
     }
 }
 
@@ -394,6 +247,28 @@ impl<P: LinkPeer> DataLayer for P {
 #[derive(Clone, Debug, PartialEq, Eq, Drop)]
 pub struct Layered<L> {
     of: PhantomData<L>,
+}
+
+impl<L: LinkLayer> LinkLayer for Layered<L> {
+    type Peer = L::Peer;
+
+    type Bond = L::Bond;
+
+    type Bridge = L::Bridge;
+
+    type Vlan = L::Vlan;
+
+    type Can = L::Can;
+
+    type Hsr = L::Hsr;
+
+    type Dsa = L::Dsa;
+
+    type Tun = L::Tun;
+
+    type BondPort = L::BondPort;
+
+    type BridgePort = L::BridgePort;
 }
 
 impl<L: LinkLayer> DataLayer for Layered<L>
@@ -409,21 +284,21 @@ where
     L::BridgePort: Supplied,
 {
     ghost use Rattle.linkinfo_data.specs.Data.{data_known};
-    ghost use Rattle.linkinfo_data.specs.DataFamilies.{families_at};
+    ghost use Rattle.linkinfo_data.specs.DataFamilies.{data_families};
     ghost use Rattle.linkinfo_data.specs.PortData.{port_known};
 
-    type Data = InfoDataOf<L>;
+    type Data = InfoDataOf<Layered<L>>;
 
-    type PortData = InfoPortDataOf<L>;
+    type PortData = InfoPortDataOf<Layered<L>>;
 
-    ghost families = { families_at _ ⟦<L as LayerFamilies>⟧.families };
+    ghost families = { data_families ⟦<Layered<L> as LayerFamilies>⟧.families };
 
-    ghost data_known = { data_known ⟦<L as LayerFamilies>⟧.families };
+    ghost data_known = { data_known ⟦<Layered<L> as LayerFamilies>⟧.families };
 
-    ghost port_data_known = { port_known ⟦<L as LayerFamilies>⟧.families };
+    ghost port_data_known = { port_known ⟦<Layered<L> as LayerFamilies>⟧.families };
 
     fn lawful() {
-        families_lawful_by::<L>();
+        families_lawful_by::<Layered<L>>();
     }
 
     fn read_data(
@@ -431,8 +306,14 @@ where
         alloc: Global,
         payload: &[u8],
         count: &mut HeaderCount,
-    ) -> Result<InfoDataOf<L>, DecodeError> {
-        L::layer_read_data(family, alloc, payload, count)
+    ) -> Result<InfoDataOf<Layered<L>>, DecodeError> {
+        match family {
+            DataFamily::Lower(family) => Ok(of_lower!(family, read(alloc, payload, count))),
+            DataFamily::Device(family) => family.read(alloc, payload, count),
+            DataFamily::Tunnel(family) => family.read(alloc, payload, count),
+            DataFamily::Peered(family) => family.read(alloc, payload, count),
+            DataFamily::Raw => Ok(InfoDataOf::Other(Bytes::copy_of(alloc, payload)?)),
+        }
     }
 
     #[inline(always)]
@@ -442,15 +323,28 @@ where
         count: &mut HeaderCount,
         buffer: &mut [u8],
     ) -> Q::Answer {
-        L::layer_ask_data(family, question, count, buffer)
+        match family {
+            DataFamily::Lower(family) => of_lower!(family, ask(question, count, buffer)),
+            DataFamily::Device(family) => {
+                PayloadFamily::<Layered<L>>::ask(family, question, count, buffer)
+            }
+            DataFamily::Tunnel(family) => {
+                PayloadFamily::<Layered<L>>::ask(family, question, count, buffer)
+            }
+            DataFamily::Peered(family) => {
+                PayloadFamily::<Layered<L>>::ask(family, question, count, buffer)
+            }
+            DataFamily::Raw => question.of_bytes(count, buffer),
+        }
     }
 
-    fn data_fit_len(value: &InfoDataOf<L>) -> Option<usize> {
-        L::layer_data_fit_len(value)
-    }
-
-    fn write_data(value: &InfoDataOf<L>, buffer: &mut [u8]) -> usize {
-        L::layer_write_data(value, buffer)
+    #[tactic(auto, unfolding(crate::specs::InfoData::data_payload))]
+    fn encode_data<E: Encode>(
+        value: &InfoDataOf<Layered<L>>,
+        encode: E,
+        buffer: &mut [u8],
+    ) -> E::Answer {
+        encode_data!(value, encode, buffer)
     }
 
     fn read_port_data(
@@ -458,8 +352,8 @@ where
         alloc: Global,
         payload: &[u8],
         count: &mut HeaderCount,
-    ) -> Result<InfoPortDataOf<L>, DecodeError> {
-        L::layer_read_port_data(family, alloc, payload, count)
+    ) -> Result<InfoPortDataOf<Layered<L>>, DecodeError> {
+        Ok(of_port!(family, read(alloc, payload, count)))
     }
 
     #[inline(always)]
@@ -469,14 +363,15 @@ where
         count: &mut HeaderCount,
         buffer: &mut [u8],
     ) -> Q::Answer {
-        L::layer_ask_port_data(family, question, count, buffer)
+        of_port!(family, ask(question, count, buffer))
     }
 
-    fn port_data_fit_len(value: &InfoPortDataOf<L>) -> Option<usize> {
-        L::layer_port_data_fit_len(value)
-    }
-
-    fn write_port_data(value: &InfoPortDataOf<L>, buffer: &mut [u8]) -> usize {
-        L::layer_write_port_data(value, buffer)
+    #[tactic(auto, unfolding(crate::specs::PortData::port_data_payload))]
+    fn encode_port_data<E: Encode>(
+        value: &InfoPortDataOf<Layered<L>>,
+        encode: E,
+        buffer: &mut [u8],
+    ) -> E::Answer {
+        encode_port_data!(value, encode, buffer)
     }
 }

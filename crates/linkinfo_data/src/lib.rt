@@ -17,15 +17,17 @@ mod peers;
 mod port_data;
 mod reading;
 mod tunnels;
+mod typed_layer;
 
 pub use ask::{
     Ask, Check, FindDifference, FindError, FindUnmet, Measure, NameFamily, Same, WriteCanonical,
 };
 pub use data::{DataFamily, family_of};
 pub use devices::DeviceFamily;
+pub use encode::{Encode, FitLen, Write};
 pub use families::{Plain, PlainFamilies};
 pub use info_data::{InfoData, InfoDataOf};
-pub use layer::{DataLayer, LayerCalls, Layered};
+pub use layer::{DataLayer, Layered};
 pub use linkinfo_table::{Difference, Unmet};
 pub use lower::LowerFamily;
 pub use payload_family::{
@@ -35,3 +37,4 @@ pub use payload_family::{
 pub use peers::PeeredFamily;
 pub use port_data::{InfoPortData, InfoPortDataOf, PortFamily, port_family_of};
 pub use tunnels::TunnelFamily;
+pub use typed_layer::{Typed, TypedFamilies, TypedRows};

@@ -1,5 +1,6 @@
-//! Data of veth, vxcan, netkit, tun, wireguard, batadv, wwan and pfcp links.
+//! Data of veth, vxcan, netkit, wireguard, batadv, wwan and pfcp links.
 
+ghost use Rattle.linkinfo_data.specs.Layered.{layer_types};
 ghost use Rattle.linkinfo_data.specs.PeerData.{peers_data_of, peers_known};
 
 use crate::ask::Ask;
@@ -11,17 +12,15 @@ use linkinfo_peers::{
     InfoBatAdv, InfoNetkitOf, InfoPfcp, InfoVethOf, InfoVxcanOf, InfoWireguard, InfoWwan,
 };
 // End: written by tables/generate.
-use linkinfo_table::{LayerFamilies, LinkLayer, Supplied};
+use linkinfo_table::LinkLayer;
 use nla_frame::{DecodeError, ExactEq, HeaderCount};
 use std::alloc::Global;
 
-/// The families of data of links with a peer (veth, vxcan and netkit), and of tun, wireguard,
-/// batadv, wwan and pfcp links.
+/// The families of data of links with a peer (veth, vxcan and netkit), and of wireguard, batadv,
+/// wwan and pfcp links.
 #[derive(Clone, Copy, Debug, PartialEq, Eq)]
 pub enum PeeredFamily {
     // Begin: written by tables/generate from tables/kinds (variants).
-    /// Attributes of `tun` links (`IFLA_TUN_*`), which the layer supplies.
-    Tun,
     /// The attribute of `veth` links (`VETH_INFO_*`): the first one of their data.
     Veth,
     /// Attributes of `wireguard` links, kept verbatim.
@@ -50,7 +49,6 @@ macro_rules! of_peered {
     ($family:expr, $call:ident $given:tt) => {
         match $family {
             // Begin: written by tables/generate from tables/kinds (calls).
-            PeeredFamily::Tun => $call!(list(InfoDataOf::Tun, P::Tun, ()) $given),
             PeeredFamily::Veth => $call!(first(InfoDataOf::Veth, InfoVethOf<P::Peer>, ()) $given),
             PeeredFamily::Wireguard => {
                 $call!(list(InfoDataOf::Wireguard, InfoWireguard, ()) $given)
@@ -69,23 +67,16 @@ macro_rules! of_peered {
     };
 }
 
-impl<P: LinkLayer> PayloadFamily<P> for PeeredFamily
-where
-    P::Bond: Supplied,
-    P::Bridge: Supplied,
-    P::Vlan: Supplied,
-    P::Can: Supplied,
-    P::Hsr: Supplied,
-    P::Dsa: Supplied,
-    P::Tun: Supplied,
-    P::BondPort: Supplied,
-    P::BridgePort: Supplied,
-{
+impl<P: LinkLayer> PayloadFamily<P> for PeeredFamily {
     type Data = InfoDataOf<P>;
 
-    ghost data_of = { λ family. peers_data_of ⟦<P as LayerFamilies>⟧.families family };
+    ghost data_of = { peers_data_of (layer_types P P.Peer P.Bond P.Bridge P.Vlan P.Can P.Hsr
+        P.Dsa P.Tun P.BondPort P.BridgePort)
+        P.Peer.LinkPeer.own };
 
-    ghost known = { λ family. peers_known ⟦<P as LayerFamilies>⟧.families family };
+    ghost known = { peers_known (layer_types P P.Peer P.Bond P.Bridge P.Vlan P.Can P.Hsr
+        P.Dsa P.Tun P.BondPort P.BridgePort)
+        P.Peer.LinkPeer.own };
 
     fn read(
         self,

@@ -3,20 +3,15 @@
 ghost use Rattle.std.specs.Prelude.{◌≡◌};
 ghost use Rattle.nla_frame.specs.Answers.{CertainUnless, Gives};
 ghost use Rattle.linkinfo_numbers.specs.PortKind.{tag_of_port_kind};
-ghost use Rattle.linkinfo_data.specs.PortData.{
-  port_data_of,
-  port_data_payload,
-  port_family_of,
-};
+ghost use Rattle.linkinfo_data.specs.PortData.{port_family_of};
 
 use crate::ask::Ask;
-use crate::encode::Encode;
-use crate::layer::{DataLayer, LayerCalls};
+use crate::layer::DataLayer;
 use crate::payload_family::PayloadFamily;
 use linkinfo_devices::InfoVrfPort;
 use linkinfo_numbers::{IFLA_INFO_SLAVE_DATA, InfoPortKind, PortTag};
 use linkinfo_peers::InfoTeamPort;
-use linkinfo_table::{LayerFamilies, LinkLayer, Supplied};
+use linkinfo_table::LinkLayer;
 use nla_frame::{Bytes, DecodeError, ExactEq, HeaderCount, Nla, Nlas};
 use std::alloc::Global;
 
@@ -96,18 +91,7 @@ impl<P: DataLayer> PayloadFamily<P> for PortFamily {
     }
 }
 
-impl<P: LinkLayer> InfoPortDataOf<P>
-where
-    P::Bond: Supplied,
-    P::Bridge: Supplied,
-    P::Vlan: Supplied,
-    P::Can: Supplied,
-    P::Hsr: Supplied,
-    P::Dsa: Supplied,
-    P::Tun: Supplied,
-    P::BondPort: Supplied,
-    P::BridgePort: Supplied,
-{
+impl<P: LinkLayer + DataLayer<PortData = InfoPortDataOf<P>>> InfoPortDataOf<P> {
     /// Parses the payload of `IFLA_INFO_SLAVE_DATA` of a port of this kind.
     ///
     /// The result holds the attributes of the port kind's family, or the bytes if the port kind has
@@ -122,66 +106,63 @@ where
         kind: &InfoPortKind,
     ) -> Result<InfoPortDataOf<P>, DecodeError>
         ensures answer { Gives (λ value. value) result
-            ((port_data_of ⟦<P as LayerFamilies>⟧.families
-            (port_family_of (tag_of_port_kind kind.now))).means payload.now) }
+            ((P.families.port_data_of (port_family_of (tag_of_port_kind kind.now))).means
+            payload.now) }
         ensures certain { CertainUnless
-            ((port_data_of ⟦<P as LayerFamilies>⟧.families
-            (port_family_of (tag_of_port_kind kind.now))).needs_memory payload.now)
+            ((P.families.port_data_of (port_family_of (tag_of_port_kind kind.now))).needs_memory
+            payload.now)
             (λ value. value) result
-            ((port_data_of ⟦<P as LayerFamilies>⟧.families
-            (port_family_of (tag_of_port_kind kind.now))).means payload.now) }
+            ((P.families.port_data_of (port_family_of (tag_of_port_kind kind.now))).means
+            payload.now) }
     {
         let mut count = HeaderCount::new();
-        P::layer_read_port_data(port_family_of(kind.tag()), alloc, payload, &mut count)
+        P::read_port_data(port_family_of(kind.tag()), alloc, payload, &mut count)
     }
 }
 
-impl<P: LinkLayer> InfoPortDataOf<P>
-where
-    P::Bond: Supplied,
-    P::Bridge: Supplied,
-    P::Vlan: Supplied,
-    P::Can: Supplied,
-    P::Hsr: Supplied,
-    P::Dsa: Supplied,
-    P::Tun: Supplied,
-    P::BondPort: Supplied,
-    P::BridgePort: Supplied,
-{
-    /// Encodes the data: the encodings of the attributes, one after another, or the bytes.
-    #[tactic(auto, unfolding(crate::specs::PortData::port_data_payload))]
-    pub(crate) fn encode<E: Encode>(&self, encode: E, buffer: &mut [u8]) -> E::Answer
-        requires { E.ready (port_data_payload ⟦<P as LayerFamilies>⟧.families self.now) buffer.old }
-        ensures { E.answered (port_data_payload ⟦<P as LayerFamilies>⟧.families self.now) buffer.old
-            buffer.new result }
-    {
-        match self {
-            InfoPortDataOf::BondPort(list) => encode.list(list, buffer),
-            InfoPortDataOf::BridgePort(list) => encode.list(list, buffer),
-            InfoPortDataOf::VrfPort(list) => encode.list(list, buffer),
-            InfoPortDataOf::TeamPort(list) => encode.list(list, buffer),
-            InfoPortDataOf::Other(bytes) => encode.bytes(bytes.as_slice(), buffer),
+/// Matches a family of ports, and expands `$call!`, of `calls`, for its data, as `of_lower!` does
+/// for data of links.
+macro_rules! of_port {
+    ($family:expr, $call:ident $given:tt) => {
+        match $family {
+            PortFamily::Bond => $call!(list(
+                InfoPortDataOf::BondPort,
+                <Self as LinkLayer>::BondPort,
+                ()
+            ) $given),
+            PortFamily::Bridge => $call!(list(
+                InfoPortDataOf::BridgePort,
+                <Self as LinkLayer>::BridgePort,
+                ()
+            ) $given),
+            PortFamily::Vrf => $call!(list(InfoPortDataOf::VrfPort, InfoVrfPort, ()) $given),
+            PortFamily::Team => $call!(list(InfoPortDataOf::TeamPort, InfoTeamPort, ()) $given),
+            PortFamily::Raw => $call!(bytes(InfoPortDataOf::Other) $given),
         }
-    }
+    };
 }
+
+/// Encodes port data, as `DataLayer::encode_port_data` does: the encodings of the attributes, one
+/// after another, or the bytes.
+macro_rules! encode_port_data {
+    ($value:expr, $encode:expr, $buffer:expr) => {
+        match $value {
+            InfoPortDataOf::BondPort(list) => $encode.list(list, $buffer),
+            InfoPortDataOf::BridgePort(list) => $encode.list(list, $buffer),
+            InfoPortDataOf::VrfPort(list) => $encode.list(list, $buffer),
+            InfoPortDataOf::TeamPort(list) => $encode.list(list, $buffer),
+            InfoPortDataOf::Other(bytes) => $encode.bytes(bytes.as_slice(), $buffer),
+        }
+    };
+}
+
+pub(crate) use encode_port_data;
+pub(crate) use of_port;
 
 /// Written as an attribute of type 5 (`IFLA_INFO_SLAVE_DATA`). The payload is the encodings of the
 /// attributes, one after another.
-impl<P: LinkLayer> Nla for InfoPortDataOf<P>
-where
-    P::Bond: Supplied,
-    P::Bridge: Supplied,
-    P::Vlan: Supplied,
-    P::Can: Supplied,
-    P::Hsr: Supplied,
-    P::Dsa: Supplied,
-    P::Tun: Supplied,
-    P::BondPort: Supplied,
-    P::BridgePort: Supplied,
-{
-    ghost use Rattle.linkinfo_data.specs.PortData.{port_data_attribute};
-
-    ghost attribute = { port_data_attribute ⟦<P as LayerFamilies>⟧.families };
+impl<P: LinkLayer + DataLayer<PortData = InfoPortDataOf<P>>> Nla for InfoPortDataOf<P> {
+    ghost attribute = { λ d. record { kind = 5; value = P.families.port_data_payload d } };
 
     fn value_len(&self) -> usize {
         self.fit_len().unwrap_or(0)
@@ -192,7 +173,7 @@ where
     }
 
     fn emit_payload(&self, buffer: &mut [u8]) -> usize {
-        P::layer_write_port_data(self, buffer)
+        P::write_port_data(self, buffer)
     }
 
     #[tactic(auto, using(nla_frame::proofs::Emitting::whole))]
@@ -201,7 +182,7 @@ where
     }
 
     fn fit_len(&self) -> Option<usize> {
-        P::layer_port_data_fit_len(self)
+        P::port_data_fit_len(self)
     }
 }
 

@@ -1,6 +1,6 @@
 //! Data of tunnels.
 
-ghost use Rattle.linkinfo_data.specs.Layered.{types_of};
+ghost use Rattle.linkinfo_data.specs.Layered.{layer_types};
 ghost use Rattle.linkinfo_data.specs.TunnelData.{tunnels_data_of, tunnels_known};
 
 use crate::ask::Ask;
@@ -8,7 +8,7 @@ use crate::calls::{ask, read};
 use crate::info_data::InfoDataOf;
 use crate::payload_family::PayloadFamily;
 use linkinfo_numbers::KindTag;
-use linkinfo_table::{LayerFamilies, LinkLayer, Supplied};
+use linkinfo_table::LinkLayer;
 // Begin: written by tables/generate from tables/kinds (types).
 use linkinfo_tunnels::{
     InfoAmt, InfoBareUdp, InfoGeneve, InfoGre, InfoGre6, InfoGtp, InfoIpTunnel, InfoVti, InfoVxlan,
@@ -102,23 +102,14 @@ macro_rules! of_tunnel {
     };
 }
 
-impl<P: LinkLayer> PayloadFamily<P> for TunnelFamily
-where
-    P::Bond: Supplied,
-    P::Bridge: Supplied,
-    P::Vlan: Supplied,
-    P::Can: Supplied,
-    P::Hsr: Supplied,
-    P::Dsa: Supplied,
-    P::Tun: Supplied,
-    P::BondPort: Supplied,
-    P::BridgePort: Supplied,
-{
+impl<P: LinkLayer> PayloadFamily<P> for TunnelFamily {
     type Data = InfoDataOf<P>;
 
-    ghost data_of = { λ family. tunnels_data_of (types_of ⟦<P as LayerFamilies>⟧.families) family };
+    ghost data_of = { tunnels_data_of (layer_types P P.Peer P.Bond P.Bridge P.Vlan P.Can P.Hsr
+        P.Dsa P.Tun P.BondPort P.BridgePort) };
 
-    ghost known = { λ family. tunnels_known (types_of ⟦<P as LayerFamilies>⟧.families) family };
+    ghost known = { tunnels_known (layer_types P P.Peer P.Bond P.Bridge P.Vlan P.Can P.Hsr
+        P.Dsa P.Tun P.BondPort P.BridgePort) };
 
     fn read(
         self,

@@ -57,6 +57,7 @@ fn lower_name(family: LowerFamily) -> Family {
     match family {
         // Begin: written by tables/generate from tables/kinds (lower).
         LowerFamily::Bridge => Family::Bridge,
+        LowerFamily::Tun => Family::Tun,
         LowerFamily::Vlan => Family::Vlan,
         LowerFamily::Bond => Family::Bond,
         LowerFamily::Hsr => Family::Hsr,
@@ -101,7 +102,6 @@ fn tunnel_name(family: TunnelFamily) -> Family {
 fn peered_name(family: PeeredFamily) -> Family {
     match family {
         // Begin: written by tables/generate from tables/kinds (peered).
-        PeeredFamily::Tun => Family::Tun,
         PeeredFamily::Veth => Family::Veth,
         PeeredFamily::Wireguard => Family::Wireguard,
         PeeredFamily::Netkit => Family::Netkit,

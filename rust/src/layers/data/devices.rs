@@ -13,7 +13,7 @@ use crate::layers::devices::{
 };
 // End: written by tables/generate.
 use crate::layers::nla_frame::{DecodeError, ExactEq, HeaderCount};
-use crate::layers::table::{LinkLayer, Supplied};
+use crate::layers::table::LinkLayer;
 
 /// The families of data of ipvlan, ipvtap, macvlan, macvtap, vrf, ipoib, xfrm, macsec and rmnet
 /// links.
@@ -64,18 +64,7 @@ macro_rules! of_device {
     };
 }
 
-impl<P: LinkLayer> PayloadFamily<P> for DeviceFamily
-where
-    P::Bond: Supplied,
-    P::Bridge: Supplied,
-    P::Vlan: Supplied,
-    P::Can: Supplied,
-    P::Hsr: Supplied,
-    P::Dsa: Supplied,
-    P::Tun: Supplied,
-    P::BondPort: Supplied,
-    P::BridgePort: Supplied,
-{
+impl<P: LinkLayer> PayloadFamily<P> for DeviceFamily {
     type Data = InfoDataOf<P>;
 
     fn read(self, payload: &[u8], count: &mut HeaderCount) -> Result<InfoDataOf<P>, DecodeError> {

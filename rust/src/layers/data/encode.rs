@@ -9,7 +9,7 @@ use crate::layers::nla_frame::{
 };
 
 /// What is made of an encoding. It may be written to a buffer.
-pub(crate) trait Encode: Sized {
+pub trait Encode: Sized {
     /// What is returned.
     type Answer;
 
@@ -40,7 +40,7 @@ pub(crate) trait Encode: Sized {
 
 /// Returns the length of the encoding, or `None` if it does not fit a payload.
 #[derive(Clone, Copy)]
-pub(crate) struct FitLen;
+pub struct FitLen;
 
 impl Encode for FitLen {
     type Answer = Option<usize>;
@@ -61,7 +61,7 @@ impl Encode for FitLen {
 /// Writes the encoding to the front of the buffer, and returns its length. Requires that it fits a
 /// payload, and that the buffer has room for it. The rest of the buffer is unchanged.
 #[derive(Clone, Copy)]
-pub(crate) struct Write;
+pub struct Write;
 
 impl Encode for Write {
     type Answer = usize;

@@ -3,8 +3,7 @@
 //! The data of a link: `IFLA_INFO_DATA`, include/uapi/linux/if_link.h.
 
 use crate::layers::data::data::family_of;
-use crate::layers::data::encode::Encode;
-use crate::layers::data::layer::LayerCalls;
+use crate::layers::data::layer::DataLayer;
 // Begin: written by tables/generate from tables/kinds (device).
 use crate::layers::devices::{
     InfoIpVlan, InfoIpVtap, InfoIpoib, InfoMacSec, InfoMacVlan, InfoMacVtap, InfoRmNet, InfoVrf,
@@ -17,7 +16,7 @@ use crate::layers::peers::{
     InfoBatAdv, InfoNetkitOf, InfoPfcp, InfoVethOf, InfoVxcanOf, InfoWireguard, InfoWwan,
 };
 // End: written by tables/generate.
-use crate::layers::table::{LinkLayer, Supplied};
+use crate::layers::table::LinkLayer;
 // Begin: written by tables/generate from tables/kinds (tunnel).
 use crate::layers::tunnels::{
     InfoAmt, InfoBareUdp, InfoGeneve, InfoGre, InfoGre6, InfoGtp, InfoIpTunnel, InfoVti, InfoVxlan,
@@ -113,18 +112,7 @@ pub enum InfoDataOf<P: LinkLayer> {
 /// The data of a link (`IFLA_INFO_DATA`), with peers kept as bytes, and opaque families.
 pub type InfoData = InfoDataOf<Bytes>;
 
-impl<P: LinkLayer> InfoDataOf<P>
-where
-    P::Bond: Supplied,
-    P::Bridge: Supplied,
-    P::Vlan: Supplied,
-    P::Can: Supplied,
-    P::Hsr: Supplied,
-    P::Dsa: Supplied,
-    P::Tun: Supplied,
-    P::BondPort: Supplied,
-    P::BridgePort: Supplied,
-{
+impl<P: LinkLayer + DataLayer<Data = InfoDataOf<P>>> InfoDataOf<P> {
     /// Parses the payload of `IFLA_INFO_DATA` of a link of this kind.
     ///
     /// The result holds the attributes of the kind's family, or the bytes if the kind has none.
@@ -138,82 +126,63 @@ where
     /// [`InfoKind::Other`]: crate::layers::numbers::InfoKind::Other
     pub fn parse_with_param(payload: &[u8], kind: &InfoKind) -> Result<InfoDataOf<P>, DecodeError> {
         let mut count = HeaderCount::new();
-        P::layer_read_data(family_of(kind.tag()), payload, &mut count)
+        P::read_data(family_of(kind.tag()), payload, &mut count)
     }
 }
 
-impl<P: LinkLayer> InfoDataOf<P>
-where
-    P::Bond: Supplied,
-    P::Bridge: Supplied,
-    P::Vlan: Supplied,
-    P::Can: Supplied,
-    P::Hsr: Supplied,
-    P::Dsa: Supplied,
-    P::Tun: Supplied,
-    P::BondPort: Supplied,
-    P::BridgePort: Supplied,
-{
-    /// Encodes the data: the encodings of the attributes, one after another, or the bytes.
-    pub(crate) fn encode<E: Encode>(&self, encode: E, buffer: &mut [u8]) -> E::Answer {
-        match self {
+/// Encodes data, as `DataLayer::encode_data` does: the encodings of the attributes, one after
+/// another, or the bytes.
+macro_rules! encode_data {
+    ($value:expr, $encode:expr, $buffer:expr) => {
+        match $value {
             // Begin: written by tables/generate from tables/kinds (encoding).
-            InfoDataOf::Bridge(list) => encode.list(list, buffer),
-            InfoDataOf::Tun(list) => encode.list(list, buffer),
-            InfoDataOf::Vlan(list) => encode.list(list, buffer),
-            InfoDataOf::Veth(nla) => encode.one(nla, buffer),
-            InfoDataOf::Vxlan(list) => encode.list(list, buffer),
-            InfoDataOf::Bond(list) => encode.list(list, buffer),
-            InfoDataOf::IpVlan(list) => encode.list(list, buffer),
-            InfoDataOf::IpVtap(list) => encode.list(list, buffer),
-            InfoDataOf::MacVlan(list) => encode.list(list, buffer),
-            InfoDataOf::MacVtap(list) => encode.list(list, buffer),
-            InfoDataOf::GreTap(list) => encode.list(list, buffer),
-            InfoDataOf::GreTap6(list) => encode.list(list, buffer),
-            InfoDataOf::IpTunnel(list) => encode.list(list, buffer),
-            InfoDataOf::GreTun(list) => encode.list(list, buffer),
-            InfoDataOf::GreTun6(list) => encode.list(list, buffer),
-            InfoDataOf::Vti(list) => encode.list(list, buffer),
-            InfoDataOf::Vrf(list) => encode.list(list, buffer),
-            InfoDataOf::Gtp(list) => encode.list(list, buffer),
-            InfoDataOf::Ipoib(list) => encode.list(list, buffer),
-            InfoDataOf::Wireguard(list) => encode.list(list, buffer),
-            InfoDataOf::Xfrm(list) => encode.list(list, buffer),
-            InfoDataOf::MacSec(list) => encode.list(list, buffer),
-            InfoDataOf::Hsr(list) => encode.list(list, buffer),
-            InfoDataOf::Geneve(list) => encode.list(list, buffer),
-            InfoDataOf::Netkit(list) => encode.list(list, buffer),
-            InfoDataOf::Vxcan(nla) => encode.one(nla, buffer),
-            InfoDataOf::Amt(list) => encode.list(list, buffer),
-            InfoDataOf::BatAdv(list) => encode.list(list, buffer),
-            InfoDataOf::BareUdp(list) => encode.list(list, buffer),
-            InfoDataOf::Wwan(list) => encode.list(list, buffer),
-            InfoDataOf::Can(list) => encode.list(list, buffer),
-            InfoDataOf::Dsa(list) => encode.list(list, buffer),
-            InfoDataOf::ErSpan(list) => encode.list(list, buffer),
-            InfoDataOf::Ip6ErSpan(list) => encode.list(list, buffer),
-            InfoDataOf::Pfcp(list) => encode.list(list, buffer),
-            InfoDataOf::RmNet(list) => encode.list(list, buffer),
+            InfoDataOf::Bridge(list) => $encode.list(list, $buffer),
+            InfoDataOf::Tun(list) => $encode.list(list, $buffer),
+            InfoDataOf::Vlan(list) => $encode.list(list, $buffer),
+            InfoDataOf::Veth(nla) => $encode.one(nla, $buffer),
+            InfoDataOf::Vxlan(list) => $encode.list(list, $buffer),
+            InfoDataOf::Bond(list) => $encode.list(list, $buffer),
+            InfoDataOf::IpVlan(list) => $encode.list(list, $buffer),
+            InfoDataOf::IpVtap(list) => $encode.list(list, $buffer),
+            InfoDataOf::MacVlan(list) => $encode.list(list, $buffer),
+            InfoDataOf::MacVtap(list) => $encode.list(list, $buffer),
+            InfoDataOf::GreTap(list) => $encode.list(list, $buffer),
+            InfoDataOf::GreTap6(list) => $encode.list(list, $buffer),
+            InfoDataOf::IpTunnel(list) => $encode.list(list, $buffer),
+            InfoDataOf::GreTun(list) => $encode.list(list, $buffer),
+            InfoDataOf::GreTun6(list) => $encode.list(list, $buffer),
+            InfoDataOf::Vti(list) => $encode.list(list, $buffer),
+            InfoDataOf::Vrf(list) => $encode.list(list, $buffer),
+            InfoDataOf::Gtp(list) => $encode.list(list, $buffer),
+            InfoDataOf::Ipoib(list) => $encode.list(list, $buffer),
+            InfoDataOf::Wireguard(list) => $encode.list(list, $buffer),
+            InfoDataOf::Xfrm(list) => $encode.list(list, $buffer),
+            InfoDataOf::MacSec(list) => $encode.list(list, $buffer),
+            InfoDataOf::Hsr(list) => $encode.list(list, $buffer),
+            InfoDataOf::Geneve(list) => $encode.list(list, $buffer),
+            InfoDataOf::Netkit(list) => $encode.list(list, $buffer),
+            InfoDataOf::Vxcan(nla) => $encode.one(nla, $buffer),
+            InfoDataOf::Amt(list) => $encode.list(list, $buffer),
+            InfoDataOf::BatAdv(list) => $encode.list(list, $buffer),
+            InfoDataOf::BareUdp(list) => $encode.list(list, $buffer),
+            InfoDataOf::Wwan(list) => $encode.list(list, $buffer),
+            InfoDataOf::Can(list) => $encode.list(list, $buffer),
+            InfoDataOf::Dsa(list) => $encode.list(list, $buffer),
+            InfoDataOf::ErSpan(list) => $encode.list(list, $buffer),
+            InfoDataOf::Ip6ErSpan(list) => $encode.list(list, $buffer),
+            InfoDataOf::Pfcp(list) => $encode.list(list, $buffer),
+            InfoDataOf::RmNet(list) => $encode.list(list, $buffer),
             // End: written by tables/generate.
-            InfoDataOf::Other(bytes) => encode.bytes(bytes.as_slice(), buffer),
+            InfoDataOf::Other(bytes) => $encode.bytes(bytes.as_slice(), $buffer),
         }
-    }
+    };
 }
+
+pub(crate) use encode_data;
 
 /// Written as an attribute of type 2 (`IFLA_INFO_DATA`). The payload is the encodings of the
 /// attributes, one after another.
-impl<P: LinkLayer> Nla for InfoDataOf<P>
-where
-    P::Bond: Supplied,
-    P::Bridge: Supplied,
-    P::Vlan: Supplied,
-    P::Can: Supplied,
-    P::Hsr: Supplied,
-    P::Dsa: Supplied,
-    P::Tun: Supplied,
-    P::BondPort: Supplied,
-    P::BridgePort: Supplied,
-{
+impl<P: LinkLayer + DataLayer<Data = InfoDataOf<P>>> Nla for InfoDataOf<P> {
     #[inline]
     fn value_len(&self) -> usize {
         self.fit_len().unwrap_or(0)
@@ -226,7 +195,7 @@ where
 
     #[inline]
     fn emit_payload(&self, buffer: &mut [u8]) -> usize {
-        P::layer_write_data(self, buffer)
+        P::write_data(self, buffer)
     }
 
     #[inline]
@@ -236,7 +205,7 @@ where
 
     #[inline]
     fn fit_len(&self) -> Option<usize> {
-        P::layer_data_fit_len(self)
+        P::data_fit_len(self)
     }
 }
 

@@ -1,20 +1,18 @@
 // @generated from crates/linkinfo_data/src/lower.rt by rust/translate/run.
 
-//! Data of bridge, vlan, bond, hsr, can and dsa links.
+//! Data of bridge, tun, vlan, bond, hsr, can and dsa links.
 
-use crate::layers::data::ask::Ask;
-use crate::layers::data::calls::{ask, read};
-use crate::layers::data::info_data::InfoDataOf;
-use crate::layers::data::payload_family::PayloadFamily;
-use crate::layers::nla_frame::{DecodeError, ExactEq, HeaderCount};
-use crate::layers::table::{LinkLayer, Supplied};
+use crate::layers::nla_frame::ExactEq;
 
-/// The families of data of bridge, vlan, bond, hsr, can and dsa links, which the layer supplies.
+/// The families of data of bridge, tun, vlan, bond, hsr, can and dsa links, which the layer
+/// supplies.
 #[derive(Clone, Copy, Debug, PartialEq, Eq, Hash, PartialOrd, Ord)]
 pub enum LowerFamily {
     // Begin: written by tables/generate from tables/kinds (variants).
     /// Attributes of `bridge` links (`IFLA_BR_*`), which the layer supplies.
     Bridge,
+    /// Attributes of `tun` links (`IFLA_TUN_*`), which the layer supplies.
+    Tun,
     /// Attributes of `vlan` links (`IFLA_VLAN_*`), which the layer supplies.
     Vlan,
     /// Attributes of `bond` links (`IFLA_BOND_*`), which the layer supplies.
@@ -30,42 +28,31 @@ pub enum LowerFamily {
 
 impl ExactEq for LowerFamily {}
 
-/// Matches a family, and expands `$call!`, of `calls`, for its data.
+/// Matches a family, and expands `$call!`, of `calls`, for its data. The type that implements
+/// [`DataLayer`] there names the types of the attributes: a body that is generic over them would
+/// have each call of a concrete layer carry what they are required to implement.
+///
+/// [`DataLayer`]: crate::layers::data::DataLayer
 macro_rules! of_lower {
     ($family:expr, $call:ident $given:tt) => {
         match $family {
             // Begin: written by tables/generate from tables/kinds (calls).
-            LowerFamily::Bridge => $call!(list(InfoDataOf::Bridge, P::Bridge, ()) $given),
-            LowerFamily::Vlan => $call!(list(InfoDataOf::Vlan, P::Vlan, ()) $given),
-            LowerFamily::Bond => $call!(list(InfoDataOf::Bond, P::Bond, ()) $given),
-            LowerFamily::Hsr => $call!(list(InfoDataOf::Hsr, P::Hsr, ()) $given),
-            LowerFamily::Can => $call!(list(InfoDataOf::Can, P::Can, ()) $given),
-            LowerFamily::Dsa => $call!(list(InfoDataOf::Dsa, P::Dsa, ()) $given),
+            LowerFamily::Bridge => {
+                $call!(list(InfoDataOf::Bridge, <Self as LinkLayer>::Bridge, ()) $given)
+            }
+            LowerFamily::Tun => $call!(list(InfoDataOf::Tun, <Self as LinkLayer>::Tun, ()) $given),
+            LowerFamily::Vlan => {
+                $call!(list(InfoDataOf::Vlan, <Self as LinkLayer>::Vlan, ()) $given)
+            }
+            LowerFamily::Bond => {
+                $call!(list(InfoDataOf::Bond, <Self as LinkLayer>::Bond, ()) $given)
+            }
+            LowerFamily::Hsr => $call!(list(InfoDataOf::Hsr, <Self as LinkLayer>::Hsr, ()) $given),
+            LowerFamily::Can => $call!(list(InfoDataOf::Can, <Self as LinkLayer>::Can, ()) $given),
+            LowerFamily::Dsa => $call!(list(InfoDataOf::Dsa, <Self as LinkLayer>::Dsa, ()) $given),
             // End: written by tables/generate.
         }
     };
 }
 
-impl<P: LinkLayer> PayloadFamily<P> for LowerFamily
-where
-    P::Bond: Supplied,
-    P::Bridge: Supplied,
-    P::Vlan: Supplied,
-    P::Can: Supplied,
-    P::Hsr: Supplied,
-    P::Dsa: Supplied,
-    P::Tun: Supplied,
-    P::BondPort: Supplied,
-    P::BridgePort: Supplied,
-{
-    type Data = InfoDataOf<P>;
-
-    fn read(self, payload: &[u8], count: &mut HeaderCount) -> Result<InfoDataOf<P>, DecodeError> {
-        Ok(of_lower!(self, read(payload, count)))
-    }
-
-    #[inline(always)]
-    fn ask<Q: Ask>(self, question: Q, count: &mut HeaderCount, buffer: &mut [u8]) -> Q::Answer {
-        of_lower!(self, ask(question, count, buffer))
-    }
-}
+pub(crate) use of_lower;

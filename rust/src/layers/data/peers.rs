@@ -1,6 +1,6 @@
 // @generated from crates/linkinfo_data/src/peers.rt by rust/translate/run.
 
-//! Data of veth, vxcan, netkit, tun, wireguard, batadv, wwan and pfcp links.
+//! Data of veth, vxcan, netkit, wireguard, batadv, wwan and pfcp links.
 
 use crate::layers::data::ask::Ask;
 use crate::layers::data::calls::{ask, read};
@@ -12,15 +12,13 @@ use crate::layers::peers::{
 };
 // End: written by tables/generate.
 use crate::layers::nla_frame::{DecodeError, ExactEq, HeaderCount};
-use crate::layers::table::{LinkLayer, Supplied};
+use crate::layers::table::LinkLayer;
 
-/// The families of data of links with a peer (veth, vxcan and netkit), and of tun, wireguard,
-/// batadv, wwan and pfcp links.
+/// The families of data of links with a peer (veth, vxcan and netkit), and of wireguard, batadv,
+/// wwan and pfcp links.
 #[derive(Clone, Copy, Debug, PartialEq, Eq, Hash, PartialOrd, Ord)]
 pub enum PeeredFamily {
     // Begin: written by tables/generate from tables/kinds (variants).
-    /// Attributes of `tun` links (`IFLA_TUN_*`), which the layer supplies.
-    Tun,
     /// The attribute of `veth` links (`VETH_INFO_*`): the first one of their data.
     Veth,
     /// Attributes of `wireguard` links, kept verbatim.
@@ -45,7 +43,6 @@ macro_rules! of_peered {
     ($family:expr, $call:ident $given:tt) => {
         match $family {
             // Begin: written by tables/generate from tables/kinds (calls).
-            PeeredFamily::Tun => $call!(list(InfoDataOf::Tun, P::Tun, ()) $given),
             PeeredFamily::Veth => $call!(first(InfoDataOf::Veth, InfoVethOf<P::Peer>, ()) $given),
             PeeredFamily::Wireguard => {
                 $call!(list(InfoDataOf::Wireguard, InfoWireguard, ()) $given)
@@ -64,18 +61,7 @@ macro_rules! of_peered {
     };
 }
 
-impl<P: LinkLayer> PayloadFamily<P> for PeeredFamily
-where
-    P::Bond: Supplied,
-    P::Bridge: Supplied,
-    P::Vlan: Supplied,
-    P::Can: Supplied,
-    P::Hsr: Supplied,
-    P::Dsa: Supplied,
-    P::Tun: Supplied,
-    P::BondPort: Supplied,
-    P::BridgePort: Supplied,
-{
+impl<P: LinkLayer> PayloadFamily<P> for PeeredFamily {
     type Data = InfoDataOf<P>;
 
     fn read(self, payload: &[u8], count: &mut HeaderCount) -> Result<InfoDataOf<P>, DecodeError> {

@@ -3,14 +3,13 @@
 //! The data of a port: `IFLA_INFO_SLAVE_DATA`, include/uapi/linux/if_link.h.
 
 use crate::layers::data::ask::Ask;
-use crate::layers::data::encode::Encode;
-use crate::layers::data::layer::{DataLayer, LayerCalls};
+use crate::layers::data::layer::DataLayer;
 use crate::layers::data::payload_family::PayloadFamily;
 use crate::layers::devices::InfoVrfPort;
 use crate::layers::nla_frame::{Bytes, DecodeError, ExactEq, HeaderCount, Nla, Nlas};
 use crate::layers::numbers::{IFLA_INFO_SLAVE_DATA, InfoPortKind, PortTag};
 use crate::layers::peers::InfoTeamPort;
-use crate::layers::table::{LinkLayer, Supplied};
+use crate::layers::table::LinkLayer;
 
 /// The family of the attributes in `IFLA_INFO_SLAVE_DATA`, which the kind of the port chooses.
 #[derive(Clone, Copy, Debug, PartialEq, Eq, Hash, PartialOrd, Ord)]
@@ -76,18 +75,7 @@ impl<P: DataLayer> PayloadFamily<P> for PortFamily {
     }
 }
 
-impl<P: LinkLayer> InfoPortDataOf<P>
-where
-    P::Bond: Supplied,
-    P::Bridge: Supplied,
-    P::Vlan: Supplied,
-    P::Can: Supplied,
-    P::Hsr: Supplied,
-    P::Dsa: Supplied,
-    P::Tun: Supplied,
-    P::BondPort: Supplied,
-    P::BridgePort: Supplied,
-{
+impl<P: LinkLayer + DataLayer<PortData = InfoPortDataOf<P>>> InfoPortDataOf<P> {
     /// Parses the payload of `IFLA_INFO_SLAVE_DATA` of a port of this kind.
     ///
     /// The result holds the attributes of the port kind's family, or the bytes if the port kind has
@@ -103,48 +91,52 @@ where
         kind: &InfoPortKind,
     ) -> Result<InfoPortDataOf<P>, DecodeError> {
         let mut count = HeaderCount::new();
-        P::layer_read_port_data(port_family_of(kind.tag()), payload, &mut count)
+        P::read_port_data(port_family_of(kind.tag()), payload, &mut count)
     }
 }
 
-impl<P: LinkLayer> InfoPortDataOf<P>
-where
-    P::Bond: Supplied,
-    P::Bridge: Supplied,
-    P::Vlan: Supplied,
-    P::Can: Supplied,
-    P::Hsr: Supplied,
-    P::Dsa: Supplied,
-    P::Tun: Supplied,
-    P::BondPort: Supplied,
-    P::BridgePort: Supplied,
-{
-    /// Encodes the data: the encodings of the attributes, one after another, or the bytes.
-    pub(crate) fn encode<E: Encode>(&self, encode: E, buffer: &mut [u8]) -> E::Answer {
-        match self {
-            InfoPortDataOf::BondPort(list) => encode.list(list, buffer),
-            InfoPortDataOf::BridgePort(list) => encode.list(list, buffer),
-            InfoPortDataOf::VrfPort(list) => encode.list(list, buffer),
-            InfoPortDataOf::TeamPort(list) => encode.list(list, buffer),
-            InfoPortDataOf::Other(bytes) => encode.bytes(bytes.as_slice(), buffer),
+/// Matches a family of ports, and expands `$call!`, of `calls`, for its data, as `of_lower!` does
+/// for data of links.
+macro_rules! of_port {
+    ($family:expr, $call:ident $given:tt) => {
+        match $family {
+            PortFamily::Bond => $call!(list(
+                InfoPortDataOf::BondPort,
+                <Self as LinkLayer>::BondPort,
+                ()
+            ) $given),
+            PortFamily::Bridge => $call!(list(
+                InfoPortDataOf::BridgePort,
+                <Self as LinkLayer>::BridgePort,
+                ()
+            ) $given),
+            PortFamily::Vrf => $call!(list(InfoPortDataOf::VrfPort, InfoVrfPort, ()) $given),
+            PortFamily::Team => $call!(list(InfoPortDataOf::TeamPort, InfoTeamPort, ()) $given),
+            PortFamily::Raw => $call!(bytes(InfoPortDataOf::Other) $given),
         }
-    }
+    };
 }
+
+/// Encodes port data, as `DataLayer::encode_port_data` does: the encodings of the attributes, one
+/// after another, or the bytes.
+macro_rules! encode_port_data {
+    ($value:expr, $encode:expr, $buffer:expr) => {
+        match $value {
+            InfoPortDataOf::BondPort(list) => $encode.list(list, $buffer),
+            InfoPortDataOf::BridgePort(list) => $encode.list(list, $buffer),
+            InfoPortDataOf::VrfPort(list) => $encode.list(list, $buffer),
+            InfoPortDataOf::TeamPort(list) => $encode.list(list, $buffer),
+            InfoPortDataOf::Other(bytes) => $encode.bytes(bytes.as_slice(), $buffer),
+        }
+    };
+}
+
+pub(crate) use encode_port_data;
+pub(crate) use of_port;
 
 /// Written as an attribute of type 5 (`IFLA_INFO_SLAVE_DATA`). The payload is the encodings of the
 /// attributes, one after another.
-impl<P: LinkLayer> Nla for InfoPortDataOf<P>
-where
-    P::Bond: Supplied,
-    P::Bridge: Supplied,
-    P::Vlan: Supplied,
-    P::Can: Supplied,
-    P::Hsr: Supplied,
-    P::Dsa: Supplied,
-    P::Tun: Supplied,
-    P::BondPort: Supplied,
-    P::BridgePort: Supplied,
-{
+impl<P: LinkLayer + DataLayer<PortData = InfoPortDataOf<P>>> Nla for InfoPortDataOf<P> {
     #[inline]
     fn value_len(&self) -> usize {
         self.fit_len().unwrap_or(0)
@@ -157,7 +149,7 @@ where
 
     #[inline]
     fn emit_payload(&self, buffer: &mut [u8]) -> usize {
-        P::layer_write_port_data(self, buffer)
+        P::write_port_data(self, buffer)
     }
 
     #[inline]
@@ -167,7 +159,7 @@ where
 
     #[inline]
     fn fit_len(&self) -> Option<usize> {
-        P::layer_port_data_fit_len(self)
+        P::port_data_fit_len(self)
     }
 }
 

@@ -7,7 +7,7 @@ use crate::layers::data::calls::{ask, read};
 use crate::layers::data::info_data::InfoDataOf;
 use crate::layers::data::payload_family::PayloadFamily;
 use crate::layers::numbers::KindTag;
-use crate::layers::table::{LinkLayer, Supplied};
+use crate::layers::table::LinkLayer;
 // Begin: written by tables/generate from tables/kinds (types).
 use crate::layers::tunnels::{
     InfoAmt, InfoBareUdp, InfoGeneve, InfoGre, InfoGre6, InfoGtp, InfoIpTunnel, InfoVti, InfoVxlan,
@@ -75,18 +75,7 @@ macro_rules! of_tunnel {
     };
 }
 
-impl<P: LinkLayer> PayloadFamily<P> for TunnelFamily
-where
-    P::Bond: Supplied,
-    P::Bridge: Supplied,
-    P::Vlan: Supplied,
-    P::Can: Supplied,
-    P::Hsr: Supplied,
-    P::Dsa: Supplied,
-    P::Tun: Supplied,
-    P::BondPort: Supplied,
-    P::BridgePort: Supplied,
-{
+impl<P: LinkLayer> PayloadFamily<P> for TunnelFamily {
     type Data = InfoDataOf<P>;
 
     fn read(self, payload: &[u8], count: &mut HeaderCount) -> Result<InfoDataOf<P>, DecodeError> {

@@ -70,10 +70,10 @@ pub use crate::layers::numbers::{
 // End: written by tables/generate.
 // Begin: written by tables/generate from tables/kinds (peered).
 pub use crate::layers::peers::{
-    InfoBatAdv, InfoNetkitOf, InfoPfcp, InfoTun, InfoVethOf, InfoVxcanOf, InfoWireguard, InfoWwan,
+    InfoBatAdv, InfoNetkitOf, InfoPfcp, InfoVethOf, InfoVxcanOf, InfoWireguard, InfoWwan,
 };
 // End: written by tables/generate.
-pub use crate::layers::peers::{InfoNetkit, InfoTeamPort, InfoVeth, InfoVxcan};
+pub use crate::layers::peers::{InfoNetkit, InfoTeamPort, InfoTun, InfoVeth, InfoVxcan};
 // Begin: written by tables/generate from tables/kinds (lower).
 pub use crate::layers::table::lower::{InfoBond, InfoBridge, InfoCan, InfoDsa, InfoHsr, InfoVlan};
 // End: written by tables/generate.

@@ -3,17 +3,25 @@
 ghost use Rattle.linkinfo_table.specs.Members.{Members};
 ghost use Rattle.linkinfo_typed.specs.declared.vlan.InfoVlan.{InfoVlan};
 
-use linkinfo_data::laws::families_lawful_by;
-use linkinfo_data::{
-    Ask, DataFamily, DataLayer, InfoDataOf, InfoPortDataOf, LayerCalls, PortFamily,
-};
+use crate::ask::Ask;
+use crate::calls::{ask, read};
+use crate::data::DataFamily;
+use crate::encode::Encode;
+use crate::info_data::{InfoDataOf, encode_data};
+use crate::laws::supplied_lawful;
+use crate::layer::DataLayer;
+use crate::lower::{LowerFamily, of_lower};
+use crate::payload_family::PayloadFamily;
+use crate::port_data::{InfoPortDataOf, PortFamily, encode_port_data, of_port};
+use linkinfo_devices::InfoVrfPort;
+use linkinfo_peers::InfoTeamPort;
 use linkinfo_table::lower::{
     InfoBond, InfoBondPort, InfoBridge, InfoBridgePort, InfoCan, InfoDsa, InfoHsr,
 };
 use linkinfo_table::opaque::TUN;
 use linkinfo_table::{LinkLayer, LinkPeer, ListedFamily, Opaque};
 use linkinfo_typed::InfoVlan;
-use nla_frame::{DecodeError, HeaderCount};
+use nla_frame::{Bytes, DecodeError, HeaderCount};
 use std::alloc::Global;
 use std::marker::PhantomData;
 
@@ -53,7 +61,7 @@ impl<P: LinkPeer> DataLayer for Typed<P> {
     ghost use Rattle.linkinfo_data.specs.Data.{data_known};
     ghost use Rattle.linkinfo_data.specs.DataFamilies.{data_families};
     ghost use Rattle.linkinfo_data.specs.PortData.{port_known};
-    ghost use Rattle.linkinfo.specs.TypedTypes.{typed_families};
+    ghost use Rattle.linkinfo_data.specs.TypedTypes.{typed_families};
 
     type Data = InfoDataOf<Typed<P>>;
 
@@ -66,7 +74,7 @@ impl<P: LinkPeer> DataLayer for Typed<P> {
     ghost port_data_known = { port_known (typed_families P.LinkPeer.own) };
 
     fn lawful() {
-        families_lawful_by::<Typed<P>>();
+        supplied_lawful::<InfoVlan>();
     }
 
     fn read_data(
@@ -75,7 +83,13 @@ impl<P: LinkPeer> DataLayer for Typed<P> {
         payload: &[u8],
         count: &mut HeaderCount,
     ) -> Result<InfoDataOf<Typed<P>>, DecodeError> {
-        Typed::<P>::layer_read_data(family, alloc, payload, count)
+        match family {
+            DataFamily::Lower(family) => Ok(of_lower!(family, read(alloc, payload, count))),
+            DataFamily::Device(family) => family.read(alloc, payload, count),
+            DataFamily::Tunnel(family) => family.read(alloc, payload, count),
+            DataFamily::Peered(family) => family.read(alloc, payload, count),
+            DataFamily::Raw => Ok(InfoDataOf::Other(Bytes::copy_of(alloc, payload)?)),
+        }
     }
 
     #[inline(always)]
@@ -85,15 +99,28 @@ impl<P: LinkPeer> DataLayer for Typed<P> {
         count: &mut HeaderCount,
         buffer: &mut [u8],
     ) -> Q::Answer {
-        Typed::<P>::layer_ask_data(family, question, count, buffer)
+        match family {
+            DataFamily::Lower(family) => of_lower!(family, ask(question, count, buffer)),
+            DataFamily::Device(family) => {
+                PayloadFamily::<Typed<P>>::ask(family, question, count, buffer)
+            }
+            DataFamily::Tunnel(family) => {
+                PayloadFamily::<Typed<P>>::ask(family, question, count, buffer)
+            }
+            DataFamily::Peered(family) => {
+                PayloadFamily::<Typed<P>>::ask(family, question, count, buffer)
+            }
+            DataFamily::Raw => question.of_bytes(count, buffer),
+        }
     }
 
-    fn data_fit_len(value: &InfoDataOf<Typed<P>>) -> Option<usize> {
-        Typed::<P>::layer_data_fit_len(value)
-    }
-
-    fn write_data(value: &InfoDataOf<Typed<P>>, buffer: &mut [u8]) -> usize {
-        Typed::<P>::layer_write_data(value, buffer)
+    #[tactic(auto, unfolding(crate::specs::InfoData::data_payload))]
+    fn encode_data<E: Encode>(
+        value: &InfoDataOf<Typed<P>>,
+        encode: E,
+        buffer: &mut [u8],
+    ) -> E::Answer {
+        encode_data!(value, encode, buffer)
     }
 
     fn read_port_data(
@@ -102,7 +129,7 @@ impl<P: LinkPeer> DataLayer for Typed<P> {
         payload: &[u8],
         count: &mut HeaderCount,
     ) -> Result<InfoPortDataOf<Typed<P>>, DecodeError> {
-        Typed::<P>::layer_read_port_data(family, alloc, payload, count)
+        Ok(of_port!(family, read(alloc, payload, count)))
     }
 
     #[inline(always)]
@@ -112,15 +139,16 @@ impl<P: LinkPeer> DataLayer for Typed<P> {
         count: &mut HeaderCount,
         buffer: &mut [u8],
     ) -> Q::Answer {
-        Typed::<P>::layer_ask_port_data(family, question, count, buffer)
+        of_port!(family, ask(question, count, buffer))
     }
 
-    fn port_data_fit_len(value: &InfoPortDataOf<Typed<P>>) -> Option<usize> {
-        Typed::<P>::layer_port_data_fit_len(value)
-    }
-
-    fn write_port_data(value: &InfoPortDataOf<Typed<P>>, buffer: &mut [u8]) -> usize {
-        Typed::<P>::layer_write_port_data(value, buffer)
+    #[tactic(auto, unfolding(crate::specs::PortData::port_data_payload))]
+    fn encode_port_data<E: Encode>(
+        value: &InfoPortDataOf<Typed<P>>,
+        encode: E,
+        buffer: &mut [u8],
+    ) -> E::Answer {
+        encode_port_data!(value, encode, buffer)
     }
 }
 

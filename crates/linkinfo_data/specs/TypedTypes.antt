@@ -4,8 +4,8 @@ use Rattle.linkinfo_table.specs.declared.opaque.Opaque.{Opaque}
 use Rattle.linkinfo_table.specs.declared.peer.LinkPeer.{Ghosts}
 use Rattle.linkinfo_data.specs.Plain.{plain}
 use Rattle.linkinfo_typed.specs.declared.vlan.InfoVlan.{InfoVlan}
-use Rattle.linkinfo.specs.contracts.typed_layer.TypedRowsTypedFamilies.TheImpl.{ghosts}
-use Rattle.linkinfo.specs.declared.typed_layer.Typed.{Typed}
+use Rattle.linkinfo_data.specs.contracts.typed_layer.TypedRowsTypedFamilies.TheImpl.{ghosts}
+use Rattle.linkinfo_data.specs.declared.typed_layer.Typed.{Typed}
 
 -- the types that it supplies
 abbrev pub typed_types : Type 0 → Types

@@ -1,0 +1,8 @@
+use Rattle.linkinfo_data.proofs.Supplied.{typed_is_layer}
+use Rattle.linkinfo_data.proofs.typed_layer.TypedDataLayer.lawful.Goals as goal
+use Rattle.linkinfo_data.specs.DataLawful.{data_lawful}
+
+pub returns : goal.returns
+returns g c =
+    data_lawful _
+    (typed_is_layer g.P.LinkPeer g.met.P.LinkPeer.lawful c.supplied_lawful.ensures)
