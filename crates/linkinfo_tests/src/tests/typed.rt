@@ -1,12 +1,14 @@
 //! Lists over the typed layer: worked strings of vlan links, and a link that is built.
 
-use super::assertions::{assert_emitted, assert_equal, assert_holds, bytes_of, nlas};
+use super::assertions::{assert_emitted, assert_equal, assert_holds, bytes_of, default_nla, nlas};
 use super::dumps::dumps;
-use linkinfo::typed::{self, InfoData, InfoVlan, LinkInfo, Typed, VecLinkInfo, VlanQosMapping};
+use linkinfo::typed::{
+    self, InfoData, InfoPortData, InfoVlan, LinkInfo, Typed, VecLinkInfo, VlanQosMapping,
+};
 use linkinfo::{
-    Bytes, Cause, DecodeError, Difference, Family, Flags, HeaderCount, InfoKind, VlanFlags,
-    VlanProtocol, check, check_counted_of, first_difference, first_unmet, layer_laws,
-    same as same_at_root,
+    Bytes, Cause, DecodeError, Difference, Family, Flags, HeaderCount, InfoBondPort, InfoKind,
+    InfoPortKind, VlanFlags, VlanProtocol, check, check_counted_of, first_difference, first_unmet,
+    layer_laws, same as same_at_root,
 };
 use std::alloc::Global;
 use std::process::Abort;
@@ -187,15 +189,34 @@ fn stored_replies(rt: HostRuntime) {
     }
 }
 
+/// Asserts that the calls over the typed layer answer of two lists what those of the root do.
+fn assert_as_at_root(rt: &impl Abort, alloc: Global, name: &str, have: &[u8], want: &[u8]) {
+    assert_equal(
+        rt,
+        &name,
+        &typed::same(have, want),
+        &same_at_root(have, want),
+    );
+    let unmet = typed::first_unmet(have, want);
+    assert_equal(rt, &name, &unmet, &first_unmet(have, want));
+    let difference = typed::first_difference(have, want);
+    assert_equal(rt, &name, &difference, &first_difference(have, want));
+    let written = typed::canon(alloc, want).expect(rt, "an accepted list");
+    assert_equal(rt, &name, &written.as_slice(), &want);
+}
+
 /// Lists without attributes of vlan links have the answers of the calls that keep these verbatim.
 #[test]
 fn replies_for_other_links(rt: HostRuntime) {
     let alloc = rt.alloc();
+    let mut before: &[u8] = &[];
     for (name, bytes) in &dumps(&rt, alloc) {
         assert_equal(&rt, name, &typed::check(bytes), &Ok(()));
         assert_equal(&rt, name, &check(bytes), &Ok(()));
         let list = VecLinkInfo::parse(alloc, bytes).expect(&rt, "a list");
         assert_emitted(&rt, alloc, list.as_slice(), bytes);
+        assert_as_at_root(&rt, alloc, name, before, bytes);
+        before = bytes;
     }
 }
 
@@ -366,4 +387,23 @@ fn built_vlan_link(rt: HostRuntime) {
     assert_emitted(&rt, alloc, list.as_slice(), &bytes);
     let read = VecLinkInfo::parse(alloc, &bytes).expect(&rt, "a list");
     assert_holds(&rt, &REPLY, read == list);
+}
+
+/// A port of a bond whose state (`IFLA_BOND_SLAVE_STATE`) is 0, active.
+const PORT: &str = "09000400 626f6e64 00000000 0c000500 05000100 00000000";
+
+#[test]
+fn built_port(rt: HostRuntime) {
+    let alloc = rt.alloc();
+    let state = InfoBondPort::Other(default_nla(&rt, alloc, 1, &[0]));
+    let data = InfoPortData::BondPort(nlas(&rt, alloc, [state]));
+    let items = [
+        LinkInfo::PortKind(InfoPortKind::Bond),
+        LinkInfo::PortData(data),
+    ];
+    let list = VecLinkInfo::from(nlas(&rt, alloc, items).into_vec());
+    let bytes = bytes_of(&rt, alloc, PORT);
+    assert_emitted(&rt, alloc, list.as_slice(), &bytes);
+    let read = VecLinkInfo::parse(alloc, &bytes).expect(&rt, "a list");
+    assert_holds(&rt, &PORT, read == list);
 }

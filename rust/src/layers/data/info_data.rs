@@ -130,8 +130,10 @@ impl<P: LinkLayer + DataLayer<Data = InfoDataOf<P>>> InfoDataOf<P> {
     }
 }
 
-/// Encodes data, as `DataLayer::encode_data` does: the encodings of the attributes, one after
+/// Encodes data, as [`DataLayer::encode_data`] does: the encodings of the attributes, one after
 /// another, or the bytes.
+///
+/// [`DataLayer::encode_data`]: crate::layers::data::DataLayer::encode_data
 macro_rules! encode_data {
     ($value:expr, $encode:expr, $buffer:expr) => {
         match $value {

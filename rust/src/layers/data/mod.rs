@@ -17,6 +17,7 @@ mod peers;
 mod port_data;
 mod reading;
 mod tunnels;
+mod typed_layer;
 
 pub use crate::layers::table::{Difference, Unmet};
 pub use ask::{
@@ -24,9 +25,10 @@ pub use ask::{
 };
 pub use data::{DataFamily, family_of};
 pub use devices::DeviceFamily;
+pub use encode::{Encode, FitLen, Write};
 pub use families::{Plain, PlainFamilies};
 pub use info_data::{InfoData, InfoDataOf};
-pub use layer::{DataLayer, LayerCalls, Layered};
+pub use layer::{DataLayer, Layered};
 pub use lower::LowerFamily;
 pub use payload_family::{
     PayloadFamily, check_payload, list_difference, list_error, list_unmet, measure_payload,
@@ -35,3 +37,4 @@ pub use payload_family::{
 pub use peers::PeeredFamily;
 pub use port_data::{InfoPortData, InfoPortDataOf, PortFamily, port_family_of};
 pub use tunnels::TunnelFamily;
+pub use typed_layer::{Typed, TypedFamilies, TypedRows};

@@ -117,8 +117,10 @@ macro_rules! of_port {
     };
 }
 
-/// Encodes port data, as `DataLayer::encode_port_data` does: the encodings of the attributes, one
+/// Encodes port data, as [`DataLayer::encode_port_data`] does: the encodings of the attributes, one
 /// after another, or the bytes.
+///
+/// [`DataLayer::encode_port_data`]: crate::layers::data::DataLayer::encode_port_data
 macro_rules! encode_port_data {
     ($value:expr, $encode:expr, $buffer:expr) => {
         match $value {

@@ -5,10 +5,10 @@
 //! numbers and attributes.
 
 // Every family has `ListedFamily`, and every layer `LayerFamilies`: they are for contracts alone,
-// as `PlainFamilies` and `Plain`, `TypedFamilies` and `TypedRows` are. Every layer has `LayerCalls`
-// too.
-pub use crate::layers::data::{DataLayer, LayerCalls, Layered, Plain, PlainFamilies};
-pub use crate::layers::link::typed_layer::{TypedFamilies, TypedRows};
+// as `PlainFamilies` and `Plain`, `TypedFamilies` and `TypedRows` are.
+pub use crate::layers::data::{
+    DataLayer, Encode, FitLen, Layered, Plain, PlainFamilies, TypedFamilies, TypedRows, Write,
+};
 pub use crate::layers::nla_frame::{
     emit_i32, emit_u16, emit_u16_be, emit_u32, emit_u32_be, emit_u64, emit_u64_be, fitting,
     write_attribute, write_attributes, write_bytes, write_bytes_attribute, write_frame,

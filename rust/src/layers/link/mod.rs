@@ -18,7 +18,6 @@ mod list;
 mod placed;
 mod role;
 pub mod typed;
-mod typed_layer;
 mod unmet;
 mod walk;
 mod xstats;

@@ -22,6 +22,7 @@
 //! These calls are those of the root over another layer. What they reject, and how they compare and
 //! write vlan attributes, is said there of the calls that end in `_of`.
 
+pub use crate::layers::data::Typed;
 use crate::layers::data::{Difference, InfoDataOf, InfoPortDataOf, Unmet};
 use crate::layers::link::canonical::{CanonError, canon_of};
 use crate::layers::link::canonical_into::{CanonIntoError, canon_into_of};
@@ -29,7 +30,6 @@ use crate::layers::link::difference::first_difference_of;
 use crate::layers::link::link_info::LinkInfoOf;
 use crate::layers::link::list::{VecLinkInfoOf, check_of, same_of};
 use crate::layers::link::placed::{ErrorAt, ErrorIn, check_at_of};
-pub use crate::layers::link::typed_layer::Typed;
 use crate::layers::link::unmet::first_unmet_of;
 use crate::layers::nla_frame::{Bytes, DecodeError};
 pub use crate::layers::typed::{InfoVlan, VlanQosMapping};

@@ -2,14 +2,15 @@
 
 //! Lists over the typed layer: worked strings of vlan links, and a link that is built.
 
-use super::assertions::{assert_emitted, assert_equal, assert_holds, bytes_of, nlas};
+use super::assertions::{assert_emitted, assert_equal, assert_holds, bytes_of, default_nla, nlas};
 use super::dumps::dumps;
 use linkinfo::layers::link::typed::{
-    self, InfoData, InfoVlan, LinkInfo, Typed, VecLinkInfo, VlanQosMapping,
+    self, InfoData, InfoPortData, InfoVlan, LinkInfo, Typed, VecLinkInfo, VlanQosMapping,
 };
 use linkinfo::layers::link::{
-    Bytes, Cause, DecodeError, Difference, Family, Flags, HeaderCount, InfoKind, VlanFlags,
-    VlanProtocol, check, check_counted_of, first_difference, first_unmet, same as same_at_root,
+    Bytes, Cause, DecodeError, Difference, Family, Flags, HeaderCount, InfoBondPort, InfoKind,
+    InfoPortKind, VlanFlags, VlanProtocol, check, check_counted_of, first_difference, first_unmet,
+    same as same_at_root,
 };
 
 /// Strings that are rejected, and their errors: an ID of one byte; a mapping of four bytes, also
@@ -182,14 +183,28 @@ fn stored_replies() {
     }
 }
 
+/// Asserts that the calls over the typed layer answer of two lists what those of the root do.
+fn assert_as_at_root(name: &str, have: &[u8], want: &[u8]) {
+    assert_equal(&name, &typed::same(have, want), &same_at_root(have, want));
+    let unmet = typed::first_unmet(have, want);
+    assert_equal(&name, &unmet, &first_unmet(have, want));
+    let difference = typed::first_difference(have, want);
+    assert_equal(&name, &difference, &first_difference(have, want));
+    let written = typed::canon(want).expect("an accepted list");
+    assert_equal(&name, &written.as_slice(), &want);
+}
+
 /// Lists without attributes of vlan links have the answers of the calls that keep these verbatim.
 #[test]
 fn replies_for_other_links() {
+    let mut before: &[u8] = &[];
     for (name, bytes) in &dumps() {
         assert_equal(name, &typed::check(bytes), &Ok(()));
         assert_equal(name, &check(bytes), &Ok(()));
         let list = VecLinkInfo::parse(bytes).expect("a list");
         assert_emitted(list.as_slice(), bytes);
+        assert_as_at_root(name, before, bytes);
+        before = bytes;
     }
 }
 
@@ -347,4 +362,22 @@ fn built_vlan_link() {
     assert_emitted(list.as_slice(), &bytes);
     let read = VecLinkInfo::parse(&bytes).expect("a list");
     assert_holds(&REPLY, read == list);
+}
+
+/// A port of a bond whose state (`IFLA_BOND_SLAVE_STATE`) is 0, active.
+const PORT: &str = "09000400 626f6e64 00000000 0c000500 05000100 00000000";
+
+#[test]
+fn built_port() {
+    let state = InfoBondPort::Other(default_nla(1, &[0]));
+    let data = InfoPortData::BondPort(nlas([state]));
+    let items = [
+        LinkInfo::PortKind(InfoPortKind::Bond),
+        LinkInfo::PortData(data),
+    ];
+    let list = VecLinkInfo::from(nlas(items).into_vec());
+    let bytes = bytes_of(PORT);
+    assert_emitted(list.as_slice(), &bytes);
+    let read = VecLinkInfo::parse(&bytes).expect("a list");
+    assert_holds(&PORT, read == list);
 }
