@@ -200,11 +200,11 @@ type  name  variant  layout  member  shown as
                  "        KindTag::Baz => DataFamily::Tunnel(TunnelFamily::Baz),\n"),
                 (f"{data}/src/info_data.rt", "kinds (variants)",
                  "    /// Attributes of `baz` links (`IFLA_BAZ_*`).\n    Baz(Nlas<InfoBaz>),\n"),
-                (f"{data}/src/layer.rt", "kinds (fields)",
+                (f"{data}/src/info_data.rt", "kinds (fields)",
                  "        & one_field (pointwise_decides baz.exact-law)\n"),
                 (f"{data}/specs/TunnelData.antt", "kinds (data)",
                  "tunnels_data_of t of.Baz = as_list plain.baz (λ xs. info.Baz xs)\n"),
-                (f"{data}/proofs/Lawful.antt", "kinds (laws)", "\n-- ---- baz\n\n"
+                (f"{data}/specs/FamiliesLawful.antt", "kinds (laws)", "\n-- ---- baz\n\n"
                  "pub baz_is : IsFamily plain.baz\n"),
                 ("crates/linkinfo_c/proofs/CausingData.antt", "kinds (tunnel)",
                  "tunnels_errors tunnel.Baz h p =\n"),

@@ -115,7 +115,8 @@ data_stated layer well is =
       -- End: written by tables/generate.
     ] in
     let peered_ones : (f : PeeredFamily) →
-    IsStated (peers_data_of (types_of layer) layer.peer f) (λ d. peered_conditions layer.peer.well well f d) = elim [
+    IsStated (peers_data_of (types_of layer) layer.peer f)
+    (λ d. peered_conditions layer.peer.well well f d) = elim [
       -- Begin: written by tables/generate from tables/kinds (peered).
       | peered.Veth ↦ one_stated (veth_members layer.peer) (λ x. info.Veth x)
           (veth_conditions layer.peer.well)

@@ -13,8 +13,8 @@ PortDataOf t =
     t.BridgePort
 
 -- the types of a layer
-abbrev pub layer_types : (layer peer bond bridge vlan can hsr dsa tun bond_port bridge_port : Type 0)
-    → Types
+abbrev pub layer_types :
+    (layer peer bond bridge vlan can hsr dsa tun bond_port bridge_port : Type 0) → Types
 layer_types layer peer bond bridge vlan can hsr dsa tun bond_port bridge_port = record {
   Layer = layer;
   Peer = peer;

@@ -1,5 +1,5 @@
--- Data of bridge, tun, vlan, bond, hsr, can and dsa links: what payloads mean under each family, and
--- the variant that holds it.
+-- Data of bridge, tun, vlan, bond, hsr, can and dsa links: what payloads mean under each family,
+-- and the variant that holds it.
 use Rattle.linkinfo_table.specs.Layers.{Families, Types}
 use Rattle.linkinfo_data.specs.Layered.{DataOf}
 use Rattle.linkinfo_data.specs.declared.info_data.InfoDataOf.TheVariants as info

@@ -1,5 +1,5 @@
--- Data of veth, vxcan, netkit, wireguard, batadv, wwan and pfcp links: what payloads mean under each
--- family, and the variant that holds it.
+-- Data of veth, vxcan, netkit, wireguard, batadv, wwan and pfcp links: what payloads mean under
+-- each family, and the variant that holds it.
 use Rattle.linkinfo_peers.specs.PeerMembers.{netkit_members, veth_members, vxcan_members}
 use Rattle.linkinfo_table.specs.Layers.{Types}
 use Rattle.linkinfo_table.specs.declared.peer.LinkPeer.{Ghosts}

@@ -38,6 +38,7 @@ of_list-requires-in-Netkit g c =
 
 pub returns-in-Netkit : goal.returns-in-Netkit
 returns-in-Netkit g c =
-    told (types g) g.P.Peer.LinkPeer (λ facts. g.Q.Ask.answered facts c.args.question c.args.count.now
+    told (types g) g.P.Peer.LinkPeer
+    (λ facts. g.Q.Ask.answered facts c.args.question c.args.count.now
     c.of_list-in-Netkit.new.count c.args.buffer.now c.of_list-in-Netkit.new.buffer
     c.of_list-in-Netkit.result) _ c.args.self (sym c.in-Netkit.is) c.of_list-in-Netkit.ensures
