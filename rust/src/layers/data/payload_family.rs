@@ -152,8 +152,11 @@ pub fn list_difference<P, F: PayloadFamily<P>>(
 /// matter. An attribute that contains a list of another family is met where that list is: the
 /// result is then the first attribute that is not met in it. In a list that is a set, each
 /// attribute is met by one of its type, in any order. A list of the family itself is met as a
-/// whole. Offsets count from the beginning of each payload. Does not allocate. Requires that both
-/// payloads are accepted, and that payloads of this family are lists (`listing`).
+/// whole. Offsets count from the beginning of each payload. Each list is passed over once for
+/// `want`, and for every 64 types up to the largest in `want` twice over `want` and once over
+/// `have`; of sets `have` is passed over once for each attribute of `want`. Does not allocate.
+/// Requires that both payloads are accepted, and that payloads of this family are lists
+/// (`listing`).
 ///
 /// # Panics
 ///
