@@ -110,7 +110,7 @@ def family(path, root):
                   tuple(row(place, line, prefixes) for place, line in body
                         if line and not line.startswith(" ")),
                   given.get("about", ""), "by hand" in given["family"],
-                  bool(re.search(", (typed|inner) in ", given["family"])))
+                  bool(re.search(", (typed|shaped|inner|inner set) in ", given["family"])))
 
 
 def values(path, root):
