@@ -27,9 +27,9 @@ use Rattle.linkinfo_numbers.specs.declared.tags.KindTag.{KindTag}
 use Rattle.linkinfo_numbers.specs.declared.tags.KindTag.TheVariants as kind
 use Rattle.linkinfo_numbers.specs.declared.tags.PortTag.{PortTag}
 use Rattle.linkinfo_data.specs.BytesLayer.{bytes_layer}
-use Rattle.linkinfo_data.specs.Data.{data_of, family_of}
+use Rattle.linkinfo_data.specs.Data.{family_of}
 use Rattle.linkinfo_data.specs.Lists.{family_in}
-use Rattle.linkinfo_data.specs.PortData.{port_data_of, port_family_of}
+use Rattle.linkinfo_data.specs.PortData.{port_family_of}
 use Rattle.linkinfo.specs.Roles.{no_kinds, role_at}
 use Rattle.linkinfo.specs.Strings.{next_kinds}
 use Rattle.linkinfo.specs.Walks.{walk_items}
@@ -70,10 +70,10 @@ table_of kind.Veth = Some (table.Family family.Veth)
 table_of kind.Vxcan = Some (table.Family family.Vxcan)
 table_of kind.SitTun = Some table.Sit
 table_of kind.Ip6Tnl = Some table.Ip6Tunnel
-table_of tag = table_in (family_in (data_of bytes_layer (family_of tag)).contents)
+table_of tag = table_in (family_in (bytes_layer.data_of (family_of tag)).contents)
 
 abbrev pub port_table_of : PortTag → Option Table
-port_table_of tag = table_in (family_in (port_data_of bytes_layer (port_family_of tag)).contents)
+port_table_of tag = table_in (family_in (bytes_layer.port_data_of (port_family_of tag)).contents)
 
 -- ---- the value of an attribute
 
