@@ -1,7 +1,7 @@
 //! Attributes of the list inside `IFLA_LINKINFO`, include/uapi/linux/if_link.h.
 
 use crate::xstats::LinkXstats;
-use linkinfo_data::DataLayer;
+use linkinfo_data::{DataLayer, FitLen, Write};
 use linkinfo_numbers::{
     IFLA_INFO_DATA, IFLA_INFO_SLAVE_DATA, IFLA_INFO_XSTATS, InfoKind, InfoPortKind,
 };
@@ -38,9 +38,9 @@ impl<P: DataLayer> Nla for LinkInfoOf<P> {
         match self {
             LinkInfoOf::Xstats(xstats) => xstats.buffer_len(),
             LinkInfoOf::Kind(kind) => kind.value_len(),
-            LinkInfoOf::Data(data) => P::data_fit_len(data).unwrap_or(0),
+            LinkInfoOf::Data(data) => P::encode_data(data, FitLen, &mut []).unwrap_or(0),
             LinkInfoOf::PortKind(kind) => kind.value_len(),
-            LinkInfoOf::PortData(data) => P::port_data_fit_len(data).unwrap_or(0),
+            LinkInfoOf::PortData(data) => P::encode_port_data(data, FitLen, &mut []).unwrap_or(0),
             LinkInfoOf::Other(nla) => nla.value_len(),
         }
     }
@@ -63,9 +63,9 @@ impl<P: DataLayer> Nla for LinkInfoOf<P> {
                 xstats.buffer_len()
             }
             LinkInfoOf::Kind(kind) => kind.emit_payload(buffer),
-            LinkInfoOf::Data(data) => P::write_data(data, buffer),
+            LinkInfoOf::Data(data) => P::encode_data(data, Write, buffer),
             LinkInfoOf::PortKind(kind) => kind.emit_payload(buffer),
-            LinkInfoOf::PortData(data) => P::write_port_data(data, buffer),
+            LinkInfoOf::PortData(data) => P::encode_port_data(data, Write, buffer),
             LinkInfoOf::Other(nla) => nla.emit_payload(buffer),
         }
     }
@@ -79,9 +79,9 @@ impl<P: DataLayer> Nla for LinkInfoOf<P> {
         match self {
             LinkInfoOf::Xstats(xstats) => fitting(xstats.buffer_len()),
             LinkInfoOf::Kind(kind) => kind.fit_len(),
-            LinkInfoOf::Data(data) => P::data_fit_len(data),
+            LinkInfoOf::Data(data) => P::encode_data(data, FitLen, &mut []),
             LinkInfoOf::PortKind(kind) => kind.fit_len(),
-            LinkInfoOf::PortData(data) => P::port_data_fit_len(data),
+            LinkInfoOf::PortData(data) => P::encode_port_data(data, FitLen, &mut []),
             LinkInfoOf::Other(nla) => nla.fit_len(),
         }
     }

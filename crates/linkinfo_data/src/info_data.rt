@@ -5,6 +5,7 @@ ghost use Rattle.linkinfo_numbers.specs.Kind.{tag_of_kind};
 ghost use Rattle.linkinfo_data.specs.Data.{family_of};
 
 use crate::data::family_of;
+use crate::encode::{FitLen, Write};
 use crate::layer::DataLayer;
 // Begin: written by tables/generate from tables/kinds (device).
 use linkinfo_devices::{
@@ -204,7 +205,7 @@ impl<P: LinkLayer + DataLayer<Data = InfoDataOf<P>>> Nla for InfoDataOf<P> {
     }
 
     fn emit_payload(&self, buffer: &mut [u8]) -> usize {
-        P::write_data(self, buffer)
+        P::encode_data(self, Write, buffer)
     }
 
     #[tactic(auto, using(nla_frame::proofs::Emitting::whole))]
@@ -213,7 +214,7 @@ impl<P: LinkLayer + DataLayer<Data = InfoDataOf<P>>> Nla for InfoDataOf<P> {
     }
 
     fn fit_len(&self) -> Option<usize> {
-        P::data_fit_len(self)
+        P::encode_data(self, FitLen, &mut [])
     }
 }
 

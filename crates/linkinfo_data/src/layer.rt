@@ -2,11 +2,9 @@
 //! the families are that the layer supplies.
 
 ghost use Rattle.std.specs.Prelude.{◌+◌, ◌/◌, ◌<◌, ◌^◌, length};
-ghost use Rattle.nla_frame.specs.Writing.{Writes};
 ghost use Rattle.linkinfo_table.specs.Calls.{Reads};
 ghost use Rattle.linkinfo_data.specs.Asking.{facts_of};
 ghost use Rattle.linkinfo_data.specs.DataFamilies.{DataFamilies};
-ghost use Rattle.linkinfo_data.specs.Encoding.{HasRoom, IsFitLen};
 ghost use Rattle.linkinfo_data.specs.Known.{IsKnown};
 ghost use Rattle.linkinfo_data.specs.Lawful.{AreLawful};
 ghost use Rattle.linkinfo_data.specs.declared.data.DataFamily.{DataFamily};
@@ -15,7 +13,7 @@ ghost use Rattle.linkinfo_data.specs.declared.port_data.PortFamily.{PortFamily};
 use crate::ask::Ask;
 use crate::calls::{ask, read};
 use crate::data::DataFamily;
-use crate::encode::{Encode, FitLen, Write};
+use crate::encode::Encode;
 use crate::info_data::{InfoDataOf, encode_data};
 use crate::laws::families_lawful_by;
 use crate::lower::{LowerFamily, of_lower};
@@ -72,25 +70,10 @@ pub trait DataLayer: Eq + Sized {
         ensures { Q.answered (facts_of (families.data_of family)) question count.old count.new
             buffer.old buffer.new result };
 
-    /// Encodes data: makes a call on its canonical payload.
+    /// Encodes data: measures its canonical payload (`FitLen`), or writes it (`Write`).
     fn encode_data<E: Encode>(value: &Self::Data, encode: E, buffer: &mut [u8]) -> E::Answer
         requires { E.ready (families.data_payload value.now) buffer.old }
         ensures { E.answered (families.data_payload value.now) buffer.old buffer.new result };
-
-    /// Returns the length of the canonical payload of data, or `None` if it does not fit.
-    fn data_fit_len(value: &Self::Data) -> Option<usize>
-        ensures { IsFitLen (families.data_payload value.now) result }
-    {
-        Self::encode_data(value, FitLen, &mut [])
-    }
-
-    /// Writes the canonical payload of data to the front of the buffer, and returns its length.
-    fn write_data(value: &Self::Data, buffer: &mut [u8]) -> usize
-        requires { HasRoom (families.data_payload value.now) buffer.old }
-        ensures { Writes (families.data_payload value.now) buffer.old buffer.new result }
-    {
-        Self::encode_data(value, Write, buffer)
-    }
 
     /// Parses a payload as port data of a family, as `PayloadFamily::read` does.
     fn read_port_data(
@@ -117,7 +100,7 @@ pub trait DataLayer: Eq + Sized {
         ensures { Q.answered (facts_of (families.port_data_of family)) question count.old count.new
             buffer.old buffer.new result };
 
-    /// Encodes port data: makes a call on its canonical payload.
+    /// Encodes port data: measures its canonical payload (`FitLen`), or writes it (`Write`).
     fn encode_port_data<E: Encode>(
         value: &Self::PortData,
         encode: E,
@@ -125,22 +108,6 @@ pub trait DataLayer: Eq + Sized {
     ) -> E::Answer
         requires { E.ready (families.port_data_payload value.now) buffer.old }
         ensures { E.answered (families.port_data_payload value.now) buffer.old buffer.new result };
-
-    /// Returns the length of the canonical payload of port data, or `None` if it does not fit.
-    fn port_data_fit_len(value: &Self::PortData) -> Option<usize>
-        ensures { IsFitLen (families.port_data_payload value.now) result }
-    {
-        Self::encode_port_data(value, FitLen, &mut [])
-    }
-
-    /// Writes the canonical payload of port data to the front of the buffer, and returns its
-    /// length.
-    fn write_port_data(value: &Self::PortData, buffer: &mut [u8]) -> usize
-        requires { HasRoom (families.port_data_payload value.now) buffer.old }
-        ensures { Writes (families.port_data_payload value.now) buffer.old buffer.new result }
-    {
-        Self::encode_port_data(value, Write, buffer)
-    }
 
     /// Data and port data of each family are lawful.
     fn lawful()

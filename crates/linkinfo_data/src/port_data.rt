@@ -6,6 +6,7 @@ ghost use Rattle.linkinfo_numbers.specs.PortKind.{tag_of_port_kind};
 ghost use Rattle.linkinfo_data.specs.PortData.{port_family_of};
 
 use crate::ask::Ask;
+use crate::encode::{FitLen, Write};
 use crate::layer::DataLayer;
 use crate::payload_family::PayloadFamily;
 use linkinfo_devices::InfoVrfPort;
@@ -173,7 +174,7 @@ impl<P: LinkLayer + DataLayer<PortData = InfoPortDataOf<P>>> Nla for InfoPortDat
     }
 
     fn emit_payload(&self, buffer: &mut [u8]) -> usize {
-        P::write_port_data(self, buffer)
+        P::encode_port_data(self, Write, buffer)
     }
 
     #[tactic(auto, using(nla_frame::proofs::Emitting::whole))]
@@ -182,7 +183,7 @@ impl<P: LinkLayer + DataLayer<PortData = InfoPortDataOf<P>>> Nla for InfoPortDat
     }
 
     fn fit_len(&self) -> Option<usize> {
-        P::port_data_fit_len(self)
+        P::encode_port_data(self, FitLen, &mut [])
     }
 }
 
