@@ -194,8 +194,9 @@ type  name  variant  layout  member  shown as
                 ("c/linkinfo.h", "kinds",
                  "  LINKINFO_KIND_RMNET = 47,\n  LINKINFO_KIND_BAZ = 48\n"),
                 (f"{data}/src/tunnels.rt", "kinds (calls)",
-                 "            TunnelFamily::Baz => "
-                 "$call!(list(InfoDataOf::Baz, InfoBaz, ()) $given),\n"),
+                 "            TunnelFamily::Baz => {\n                "
+                 "$call!(list(InfoDataOf::Baz, linkinfo_tunnels::InfoBaz, ()) $given)\n"
+                 "            }\n"),
                 (f"{data}/src/data.rt", "kinds",
                  "        KindTag::Baz => DataFamily::Tunnel(TunnelFamily::Baz),\n"),
                 (f"{data}/src/info_data.rt", "kinds (variants)",

@@ -1,21 +1,6 @@
 //! Data of ipvlan, ipvtap, macvlan, macvtap, vrf, ipoib, xfrm, macsec and rmnet links.
 
-ghost use Rattle.linkinfo_data.specs.Layered.{layer_types};
-ghost use Rattle.linkinfo_data.specs.DeviceData.{devices_data_of, devices_known};
-
-use crate::ask::Ask;
-use crate::calls::{ask, read};
-use crate::info_data::InfoDataOf;
-use crate::payload_family::PayloadFamily;
-// Begin: written by tables/generate from tables/kinds (types).
-use linkinfo_devices::{
-    InfoIpVlan, InfoIpVtap, InfoIpoib, InfoMacSec, InfoMacVlan, InfoMacVtap, InfoRmNet, InfoVrf,
-    InfoXfrm,
-};
-// End: written by tables/generate.
-use linkinfo_table::LinkLayer;
-use nla_frame::{DecodeError, ExactEq, HeaderCount};
-use std::alloc::Global;
+use nla_frame::ExactEq;
 
 /// The families of data of ipvlan, ipvtap, macvlan, macvtap, vrf, ipoib, xfrm, macsec and rmnet
 /// links.
@@ -56,40 +41,36 @@ macro_rules! of_device {
     ($family:expr, $call:ident $given:tt) => {
         match $family {
             // Begin: written by tables/generate from tables/kinds (calls).
-            DeviceFamily::IpVlan => $call!(list(InfoDataOf::IpVlan, InfoIpVlan, ()) $given),
-            DeviceFamily::IpVtap => $call!(list(InfoDataOf::IpVtap, InfoIpVtap, ()) $given),
-            DeviceFamily::MacVlan(n) => $call!(list(InfoDataOf::MacVlan, InfoMacVlan, n) $given),
-            DeviceFamily::MacVtap(n) => $call!(list(InfoDataOf::MacVtap, InfoMacVtap, n) $given),
-            DeviceFamily::Vrf => $call!(list(InfoDataOf::Vrf, InfoVrf, ()) $given),
-            DeviceFamily::Ipoib => $call!(list(InfoDataOf::Ipoib, InfoIpoib, ()) $given),
-            DeviceFamily::Xfrm => $call!(list(InfoDataOf::Xfrm, InfoXfrm, ()) $given),
-            DeviceFamily::MacSec => $call!(list(InfoDataOf::MacSec, InfoMacSec, ()) $given),
-            DeviceFamily::RmNet => $call!(list(InfoDataOf::RmNet, InfoRmNet, ()) $given),
+            DeviceFamily::IpVlan => {
+                $call!(list(InfoDataOf::IpVlan, linkinfo_devices::InfoIpVlan, ()) $given)
+            }
+            DeviceFamily::IpVtap => {
+                $call!(list(InfoDataOf::IpVtap, linkinfo_devices::InfoIpVtap, ()) $given)
+            }
+            DeviceFamily::MacVlan(n) => {
+                $call!(list(InfoDataOf::MacVlan, linkinfo_devices::InfoMacVlan, n) $given)
+            }
+            DeviceFamily::MacVtap(n) => {
+                $call!(list(InfoDataOf::MacVtap, linkinfo_devices::InfoMacVtap, n) $given)
+            }
+            DeviceFamily::Vrf => {
+                $call!(list(InfoDataOf::Vrf, linkinfo_devices::InfoVrf, ()) $given)
+            }
+            DeviceFamily::Ipoib => {
+                $call!(list(InfoDataOf::Ipoib, linkinfo_devices::InfoIpoib, ()) $given)
+            }
+            DeviceFamily::Xfrm => {
+                $call!(list(InfoDataOf::Xfrm, linkinfo_devices::InfoXfrm, ()) $given)
+            }
+            DeviceFamily::MacSec => {
+                $call!(list(InfoDataOf::MacSec, linkinfo_devices::InfoMacSec, ()) $given)
+            }
+            DeviceFamily::RmNet => {
+                $call!(list(InfoDataOf::RmNet, linkinfo_devices::InfoRmNet, ()) $given)
+            }
             // End: written by tables/generate.
         }
     };
 }
 
-impl<P: LinkLayer> PayloadFamily<P> for DeviceFamily {
-    type Data = InfoDataOf<P>;
-
-    ghost data_of = { devices_data_of (layer_types P P.Peer P.Bond P.Bridge P.Vlan P.Can P.Hsr
-        P.Dsa P.Tun P.BondPort P.BridgePort) };
-
-    ghost known = { devices_known (layer_types P P.Peer P.Bond P.Bridge P.Vlan P.Can P.Hsr
-        P.Dsa P.Tun P.BondPort P.BridgePort) };
-
-    fn read(
-        self,
-        alloc: Global,
-        payload: &[u8],
-        count: &mut HeaderCount,
-    ) -> Result<InfoDataOf<P>, DecodeError> {
-        Ok(of_device!(self, read(alloc, payload, count)))
-    }
-
-    #[inline(always)]
-    fn ask<Q: Ask>(self, question: Q, count: &mut HeaderCount, buffer: &mut [u8]) -> Q::Answer {
-        of_device!(self, ask(question, count, buffer))
-    }
-}
+pub(crate) use of_device;

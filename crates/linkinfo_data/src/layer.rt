@@ -13,12 +13,14 @@ ghost use Rattle.linkinfo_data.specs.declared.port_data.PortFamily.{PortFamily};
 use crate::ask::Ask;
 use crate::calls::{ask, read};
 use crate::data::DataFamily;
+use crate::devices::{DeviceFamily, of_device};
 use crate::encode::Encode;
 use crate::info_data::{InfoDataOf, encode_data};
 use crate::laws::families_lawful_by;
 use crate::lower::{LowerFamily, of_lower};
-use crate::payload_family::PayloadFamily;
+use crate::peers::{PeeredFamily, of_peered};
 use crate::port_data::{InfoPortDataOf, PortFamily, encode_port_data, of_port};
+use crate::tunnels::{TunnelFamily, of_tunnel};
 use linkinfo_devices::InfoVrfPort;
 use linkinfo_peers::InfoTeamPort;
 use linkinfo_table::{LayerFamilies, LinkLayer, LinkPeer, Supplied};
@@ -147,9 +149,9 @@ impl<P: LinkPeer> DataLayer for P {
     ) -> Result<InfoDataOf<P>, DecodeError> {
         match family {
             DataFamily::Lower(family) => Ok(of_lower!(family, read(alloc, payload, count))),
-            DataFamily::Device(family) => family.read(alloc, payload, count),
-            DataFamily::Tunnel(family) => family.read(alloc, payload, count),
-            DataFamily::Peered(family) => family.read(alloc, payload, count),
+            DataFamily::Device(family) => Ok(of_device!(family, read(alloc, payload, count))),
+            DataFamily::Tunnel(family) => Ok(of_tunnel!(family, read(alloc, payload, count))),
+            DataFamily::Peered(family) => Ok(of_peered!(family, read(alloc, payload, count))),
             DataFamily::Raw => Ok(InfoDataOf::Other(Bytes::copy_of(alloc, payload)?)),
         }
     }
@@ -163,15 +165,9 @@ impl<P: LinkPeer> DataLayer for P {
     ) -> Q::Answer {
         match family {
             DataFamily::Lower(family) => of_lower!(family, ask(question, count, buffer)),
-            DataFamily::Device(family) => {
-                PayloadFamily::<P>::ask(family, question, count, buffer)
-            }
-            DataFamily::Tunnel(family) => {
-                PayloadFamily::<P>::ask(family, question, count, buffer)
-            }
-            DataFamily::Peered(family) => {
-                PayloadFamily::<P>::ask(family, question, count, buffer)
-            }
+            DataFamily::Device(family) => of_device!(family, ask(question, count, buffer)),
+            DataFamily::Tunnel(family) => of_tunnel!(family, ask(question, count, buffer)),
+            DataFamily::Peered(family) => of_peered!(family, ask(question, count, buffer)),
             DataFamily::Raw => question.of_bytes(count, buffer),
         }
     }
@@ -276,9 +272,9 @@ where
     ) -> Result<InfoDataOf<Layered<L>>, DecodeError> {
         match family {
             DataFamily::Lower(family) => Ok(of_lower!(family, read(alloc, payload, count))),
-            DataFamily::Device(family) => family.read(alloc, payload, count),
-            DataFamily::Tunnel(family) => family.read(alloc, payload, count),
-            DataFamily::Peered(family) => family.read(alloc, payload, count),
+            DataFamily::Device(family) => Ok(of_device!(family, read(alloc, payload, count))),
+            DataFamily::Tunnel(family) => Ok(of_tunnel!(family, read(alloc, payload, count))),
+            DataFamily::Peered(family) => Ok(of_peered!(family, read(alloc, payload, count))),
             DataFamily::Raw => Ok(InfoDataOf::Other(Bytes::copy_of(alloc, payload)?)),
         }
     }
@@ -292,15 +288,9 @@ where
     ) -> Q::Answer {
         match family {
             DataFamily::Lower(family) => of_lower!(family, ask(question, count, buffer)),
-            DataFamily::Device(family) => {
-                PayloadFamily::<Layered<L>>::ask(family, question, count, buffer)
-            }
-            DataFamily::Tunnel(family) => {
-                PayloadFamily::<Layered<L>>::ask(family, question, count, buffer)
-            }
-            DataFamily::Peered(family) => {
-                PayloadFamily::<Layered<L>>::ask(family, question, count, buffer)
-            }
+            DataFamily::Device(family) => of_device!(family, ask(question, count, buffer)),
+            DataFamily::Tunnel(family) => of_tunnel!(family, ask(question, count, buffer)),
+            DataFamily::Peered(family) => of_peered!(family, ask(question, count, buffer)),
             DataFamily::Raw => question.of_bytes(count, buffer),
         }
     }

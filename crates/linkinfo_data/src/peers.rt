@@ -1,20 +1,6 @@
 //! Data of veth, vxcan, netkit, wireguard, batadv, wwan and pfcp links.
 
-ghost use Rattle.linkinfo_data.specs.Layered.{layer_types};
-ghost use Rattle.linkinfo_data.specs.PeerData.{peers_data_of, peers_known};
-
-use crate::ask::Ask;
-use crate::calls::{ask, read};
-use crate::info_data::InfoDataOf;
-use crate::payload_family::PayloadFamily;
-// Begin: written by tables/generate from tables/kinds (types).
-use linkinfo_peers::{
-    InfoBatAdv, InfoNetkitOf, InfoPfcp, InfoVethOf, InfoVxcanOf, InfoWireguard, InfoWwan,
-};
-// End: written by tables/generate.
-use linkinfo_table::LinkLayer;
-use nla_frame::{DecodeError, ExactEq, HeaderCount};
-use std::alloc::Global;
+use nla_frame::ExactEq;
 
 /// The families of data of links with a peer (veth, vxcan and netkit), and of wireguard, batadv,
 /// wwan and pfcp links.
@@ -49,46 +35,36 @@ macro_rules! of_peered {
     ($family:expr, $call:ident $given:tt) => {
         match $family {
             // Begin: written by tables/generate from tables/kinds (calls).
-            PeeredFamily::Veth => $call!(first(InfoDataOf::Veth, InfoVethOf<P::Peer>, ()) $given),
+            PeeredFamily::Veth => $call!(first(
+                InfoDataOf::Veth,
+                linkinfo_peers::InfoVethOf<<Self as LinkLayer>::Peer>,
+                ()
+            ) $given),
             PeeredFamily::Wireguard => {
-                $call!(list(InfoDataOf::Wireguard, InfoWireguard, ()) $given)
+                $call!(list(InfoDataOf::Wireguard, linkinfo_peers::InfoWireguard, ()) $given)
             }
-            PeeredFamily::Netkit => {
-                $call!(list(InfoDataOf::Netkit, InfoNetkitOf<P::Peer>, ()) $given)
+            PeeredFamily::Netkit => $call!(list(
+                InfoDataOf::Netkit,
+                linkinfo_peers::InfoNetkitOf<<Self as LinkLayer>::Peer>,
+                ()
+            ) $given),
+            PeeredFamily::Vxcan => $call!(first(
+                InfoDataOf::Vxcan,
+                linkinfo_peers::InfoVxcanOf<<Self as LinkLayer>::Peer>,
+                ()
+            ) $given),
+            PeeredFamily::BatAdv => {
+                $call!(list(InfoDataOf::BatAdv, linkinfo_peers::InfoBatAdv, ()) $given)
             }
-            PeeredFamily::Vxcan => {
-                $call!(first(InfoDataOf::Vxcan, InfoVxcanOf<P::Peer>, ()) $given)
+            PeeredFamily::Wwan => {
+                $call!(list(InfoDataOf::Wwan, linkinfo_peers::InfoWwan, ()) $given)
             }
-            PeeredFamily::BatAdv => $call!(list(InfoDataOf::BatAdv, InfoBatAdv, ()) $given),
-            PeeredFamily::Wwan => $call!(list(InfoDataOf::Wwan, InfoWwan, ()) $given),
-            PeeredFamily::Pfcp => $call!(list(InfoDataOf::Pfcp, InfoPfcp, ()) $given),
+            PeeredFamily::Pfcp => {
+                $call!(list(InfoDataOf::Pfcp, linkinfo_peers::InfoPfcp, ()) $given)
+            }
             // End: written by tables/generate.
         }
     };
 }
 
-impl<P: LinkLayer> PayloadFamily<P> for PeeredFamily {
-    type Data = InfoDataOf<P>;
-
-    ghost data_of = { peers_data_of (layer_types P P.Peer P.Bond P.Bridge P.Vlan P.Can P.Hsr
-        P.Dsa P.Tun P.BondPort P.BridgePort)
-        P.Peer.LinkPeer.own };
-
-    ghost known = { peers_known (layer_types P P.Peer P.Bond P.Bridge P.Vlan P.Can P.Hsr
-        P.Dsa P.Tun P.BondPort P.BridgePort)
-        P.Peer.LinkPeer.own };
-
-    fn read(
-        self,
-        alloc: Global,
-        payload: &[u8],
-        count: &mut HeaderCount,
-    ) -> Result<InfoDataOf<P>, DecodeError> {
-        Ok(of_peered!(self, read(alloc, payload, count)))
-    }
-
-    #[inline(always)]
-    fn ask<Q: Ask>(self, question: Q, count: &mut HeaderCount, buffer: &mut [u8]) -> Q::Answer {
-        of_peered!(self, ask(question, count, buffer))
-    }
-}
+pub(crate) use of_peered;

@@ -1,21 +1,7 @@
 //! Data of tunnels.
 
-ghost use Rattle.linkinfo_data.specs.Layered.{layer_types};
-ghost use Rattle.linkinfo_data.specs.TunnelData.{tunnels_data_of, tunnels_known};
-
-use crate::ask::Ask;
-use crate::calls::{ask, read};
-use crate::info_data::InfoDataOf;
-use crate::payload_family::PayloadFamily;
 use linkinfo_numbers::KindTag;
-use linkinfo_table::LinkLayer;
-// Begin: written by tables/generate from tables/kinds (types).
-use linkinfo_tunnels::{
-    InfoAmt, InfoBareUdp, InfoGeneve, InfoGre, InfoGre6, InfoGtp, InfoIpTunnel, InfoVti, InfoVxlan,
-};
-// End: written by tables/generate.
-use nla_frame::{DecodeError, ExactEq, HeaderCount};
-use std::alloc::Global;
+use nla_frame::ExactEq;
 
 /// The families of data of tunnels.
 #[derive(Clone, Copy, Debug, PartialEq, Eq)]
@@ -82,46 +68,48 @@ macro_rules! of_tunnel {
     ($family:expr, $call:ident $given:tt) => {
         match $family {
             // Begin: written by tables/generate from tables/kinds (calls).
-            TunnelFamily::Vxlan => $call!(list(InfoDataOf::Vxlan, InfoVxlan, ()) $given),
-            TunnelFamily::GreTap => $call!(list(InfoDataOf::GreTap, InfoGre, ()) $given),
-            TunnelFamily::GreTap6 => $call!(list(InfoDataOf::GreTap6, InfoGre6, ()) $given),
-            TunnelFamily::IpTunnel(tag) => {
-                $call!(list(InfoDataOf::IpTunnel, InfoIpTunnel, tag) $given)
+            TunnelFamily::Vxlan => {
+                $call!(list(InfoDataOf::Vxlan, linkinfo_tunnels::InfoVxlan, ()) $given)
             }
-            TunnelFamily::GreTun => $call!(list(InfoDataOf::GreTun, InfoGre, ()) $given),
-            TunnelFamily::GreTun6 => $call!(list(InfoDataOf::GreTun6, InfoGre6, ()) $given),
-            TunnelFamily::Vti => $call!(list(InfoDataOf::Vti, InfoVti, ()) $given),
-            TunnelFamily::Gtp => $call!(list(InfoDataOf::Gtp, InfoGtp, ()) $given),
-            TunnelFamily::Geneve => $call!(list(InfoDataOf::Geneve, InfoGeneve, ()) $given),
-            TunnelFamily::Amt => $call!(list(InfoDataOf::Amt, InfoAmt, ()) $given),
-            TunnelFamily::BareUdp => $call!(list(InfoDataOf::BareUdp, InfoBareUdp, ()) $given),
-            TunnelFamily::ErSpan => $call!(list(InfoDataOf::ErSpan, InfoGre, ()) $given),
-            TunnelFamily::Ip6ErSpan => $call!(list(InfoDataOf::Ip6ErSpan, InfoGre6, ()) $given),
+            TunnelFamily::GreTap => {
+                $call!(list(InfoDataOf::GreTap, linkinfo_tunnels::InfoGre, ()) $given)
+            }
+            TunnelFamily::GreTap6 => {
+                $call!(list(InfoDataOf::GreTap6, linkinfo_tunnels::InfoGre6, ()) $given)
+            }
+            TunnelFamily::IpTunnel(tag) => {
+                $call!(list(InfoDataOf::IpTunnel, linkinfo_tunnels::InfoIpTunnel, tag) $given)
+            }
+            TunnelFamily::GreTun => {
+                $call!(list(InfoDataOf::GreTun, linkinfo_tunnels::InfoGre, ()) $given)
+            }
+            TunnelFamily::GreTun6 => {
+                $call!(list(InfoDataOf::GreTun6, linkinfo_tunnels::InfoGre6, ()) $given)
+            }
+            TunnelFamily::Vti => {
+                $call!(list(InfoDataOf::Vti, linkinfo_tunnels::InfoVti, ()) $given)
+            }
+            TunnelFamily::Gtp => {
+                $call!(list(InfoDataOf::Gtp, linkinfo_tunnels::InfoGtp, ()) $given)
+            }
+            TunnelFamily::Geneve => {
+                $call!(list(InfoDataOf::Geneve, linkinfo_tunnels::InfoGeneve, ()) $given)
+            }
+            TunnelFamily::Amt => {
+                $call!(list(InfoDataOf::Amt, linkinfo_tunnels::InfoAmt, ()) $given)
+            }
+            TunnelFamily::BareUdp => {
+                $call!(list(InfoDataOf::BareUdp, linkinfo_tunnels::InfoBareUdp, ()) $given)
+            }
+            TunnelFamily::ErSpan => {
+                $call!(list(InfoDataOf::ErSpan, linkinfo_tunnels::InfoGre, ()) $given)
+            }
+            TunnelFamily::Ip6ErSpan => {
+                $call!(list(InfoDataOf::Ip6ErSpan, linkinfo_tunnels::InfoGre6, ()) $given)
+            }
             // End: written by tables/generate.
         }
     };
 }
 
-impl<P: LinkLayer> PayloadFamily<P> for TunnelFamily {
-    type Data = InfoDataOf<P>;
-
-    ghost data_of = { tunnels_data_of (layer_types P P.Peer P.Bond P.Bridge P.Vlan P.Can P.Hsr
-        P.Dsa P.Tun P.BondPort P.BridgePort) };
-
-    ghost known = { tunnels_known (layer_types P P.Peer P.Bond P.Bridge P.Vlan P.Can P.Hsr
-        P.Dsa P.Tun P.BondPort P.BridgePort) };
-
-    fn read(
-        self,
-        alloc: Global,
-        payload: &[u8],
-        count: &mut HeaderCount,
-    ) -> Result<InfoDataOf<P>, DecodeError> {
-        Ok(of_tunnel!(self, read(alloc, payload, count)))
-    }
-
-    #[inline(always)]
-    fn ask<Q: Ask>(self, question: Q, count: &mut HeaderCount, buffer: &mut [u8]) -> Q::Answer {
-        of_tunnel!(self, ask(question, count, buffer))
-    }
-}
+pub(crate) use of_tunnel;

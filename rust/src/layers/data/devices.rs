@@ -2,18 +2,7 @@
 
 //! Data of ipvlan, ipvtap, macvlan, macvtap, vrf, ipoib, xfrm, macsec and rmnet links.
 
-use crate::layers::data::ask::Ask;
-use crate::layers::data::calls::{ask, read};
-use crate::layers::data::info_data::InfoDataOf;
-use crate::layers::data::payload_family::PayloadFamily;
-// Begin: written by tables/generate from tables/kinds (types).
-use crate::layers::devices::{
-    InfoIpVlan, InfoIpVtap, InfoIpoib, InfoMacSec, InfoMacVlan, InfoMacVtap, InfoRmNet, InfoVrf,
-    InfoXfrm,
-};
-// End: written by tables/generate.
-use crate::layers::nla_frame::{DecodeError, ExactEq, HeaderCount};
-use crate::layers::table::LinkLayer;
+use crate::layers::nla_frame::ExactEq;
 
 /// The families of data of ipvlan, ipvtap, macvlan, macvtap, vrf, ipoib, xfrm, macsec and rmnet
 /// links.
@@ -50,29 +39,36 @@ macro_rules! of_device {
     ($family:expr, $call:ident $given:tt) => {
         match $family {
             // Begin: written by tables/generate from tables/kinds (calls).
-            DeviceFamily::IpVlan => $call!(list(InfoDataOf::IpVlan, InfoIpVlan, ()) $given),
-            DeviceFamily::IpVtap => $call!(list(InfoDataOf::IpVtap, InfoIpVtap, ()) $given),
-            DeviceFamily::MacVlan(n) => $call!(list(InfoDataOf::MacVlan, InfoMacVlan, n) $given),
-            DeviceFamily::MacVtap(n) => $call!(list(InfoDataOf::MacVtap, InfoMacVtap, n) $given),
-            DeviceFamily::Vrf => $call!(list(InfoDataOf::Vrf, InfoVrf, ()) $given),
-            DeviceFamily::Ipoib => $call!(list(InfoDataOf::Ipoib, InfoIpoib, ()) $given),
-            DeviceFamily::Xfrm => $call!(list(InfoDataOf::Xfrm, InfoXfrm, ()) $given),
-            DeviceFamily::MacSec => $call!(list(InfoDataOf::MacSec, InfoMacSec, ()) $given),
-            DeviceFamily::RmNet => $call!(list(InfoDataOf::RmNet, InfoRmNet, ()) $given),
+            DeviceFamily::IpVlan => {
+                $call!(list(InfoDataOf::IpVlan, crate::layers::devices::InfoIpVlan, ()) $given)
+            }
+            DeviceFamily::IpVtap => {
+                $call!(list(InfoDataOf::IpVtap, crate::layers::devices::InfoIpVtap, ()) $given)
+            }
+            DeviceFamily::MacVlan(n) => {
+                $call!(list(InfoDataOf::MacVlan, crate::layers::devices::InfoMacVlan, n) $given)
+            }
+            DeviceFamily::MacVtap(n) => {
+                $call!(list(InfoDataOf::MacVtap, crate::layers::devices::InfoMacVtap, n) $given)
+            }
+            DeviceFamily::Vrf => {
+                $call!(list(InfoDataOf::Vrf, crate::layers::devices::InfoVrf, ()) $given)
+            }
+            DeviceFamily::Ipoib => {
+                $call!(list(InfoDataOf::Ipoib, crate::layers::devices::InfoIpoib, ()) $given)
+            }
+            DeviceFamily::Xfrm => {
+                $call!(list(InfoDataOf::Xfrm, crate::layers::devices::InfoXfrm, ()) $given)
+            }
+            DeviceFamily::MacSec => {
+                $call!(list(InfoDataOf::MacSec, crate::layers::devices::InfoMacSec, ()) $given)
+            }
+            DeviceFamily::RmNet => {
+                $call!(list(InfoDataOf::RmNet, crate::layers::devices::InfoRmNet, ()) $given)
+            }
             // End: written by tables/generate.
         }
     };
 }
 
-impl<P: LinkLayer> PayloadFamily<P> for DeviceFamily {
-    type Data = InfoDataOf<P>;
-
-    fn read(self, payload: &[u8], count: &mut HeaderCount) -> Result<InfoDataOf<P>, DecodeError> {
-        Ok(of_device!(self, read(payload, count)))
-    }
-
-    #[inline(always)]
-    fn ask<Q: Ask>(self, question: Q, count: &mut HeaderCount, buffer: &mut [u8]) -> Q::Answer {
-        of_device!(self, ask(question, count, buffer))
-    }
-}
+pub(crate) use of_device;

@@ -3,6 +3,7 @@
 //! The data of a link: `IFLA_INFO_DATA`, include/uapi/linux/if_link.h.
 
 use crate::layers::data::data::family_of;
+use crate::layers::data::encode::{FitLen, Write};
 use crate::layers::data::layer::DataLayer;
 // Begin: written by tables/generate from tables/kinds (device).
 use crate::layers::devices::{
@@ -197,7 +198,7 @@ impl<P: LinkLayer + DataLayer<Data = InfoDataOf<P>>> Nla for InfoDataOf<P> {
 
     #[inline]
     fn emit_payload(&self, buffer: &mut [u8]) -> usize {
-        P::write_data(self, buffer)
+        P::encode_data(self, Write, buffer)
     }
 
     #[inline]
@@ -207,7 +208,7 @@ impl<P: LinkLayer + DataLayer<Data = InfoDataOf<P>>> Nla for InfoDataOf<P> {
 
     #[inline]
     fn fit_len(&self) -> Option<usize> {
-        P::data_fit_len(self)
+        P::encode_data(self, FitLen, &mut [])
     }
 }
 

@@ -6,11 +6,13 @@
 use crate::layers::data::ask::Ask;
 use crate::layers::data::calls::{ask, read};
 use crate::layers::data::data::DataFamily;
-use crate::layers::data::encode::{Encode, FitLen, Write};
+use crate::layers::data::devices::{DeviceFamily, of_device};
+use crate::layers::data::encode::Encode;
 use crate::layers::data::info_data::{InfoDataOf, encode_data};
 use crate::layers::data::lower::{LowerFamily, of_lower};
-use crate::layers::data::payload_family::PayloadFamily;
+use crate::layers::data::peers::{PeeredFamily, of_peered};
 use crate::layers::data::port_data::{InfoPortDataOf, PortFamily, encode_port_data, of_port};
+use crate::layers::data::tunnels::{TunnelFamily, of_tunnel};
 use crate::layers::devices::InfoVrfPort;
 use crate::layers::nla_frame::{Bytes, DecodeError, ExactEq, HeaderCount};
 use crate::layers::peers::InfoTeamPort;
@@ -64,28 +66,16 @@ pub trait DataLayer: Eq + Sized {
         buffer: &mut [u8],
     ) -> Q::Answer;
 
-    /// Encodes data: makes a call on its canonical payload.
+    /// Encodes data: measures its canonical payload ([`FitLen`]), or writes it ([`Write`]).
     ///
     /// # Panics
     ///
     /// May panic where a condition of the caller that is named here does not hold. Where it does
     /// not panic then, the result has no meaning.
+    ///
+    /// [`FitLen`]: crate::layers::data::FitLen
+    /// [`Write`]: crate::layers::data::Write
     fn encode_data<E: Encode>(value: &Self::Data, encode: E, buffer: &mut [u8]) -> E::Answer;
-
-    /// Returns the length of the canonical payload of data, or `None` if it does not fit.
-    fn data_fit_len(value: &Self::Data) -> Option<usize> {
-        Self::encode_data(value, FitLen, &mut [])
-    }
-
-    /// Writes the canonical payload of data to the front of the buffer, and returns its length.
-    ///
-    /// # Panics
-    ///
-    /// May panic where a condition of the caller that is named here does not hold. Where it does
-    /// not panic then, the result has no meaning.
-    fn write_data(value: &Self::Data, buffer: &mut [u8]) -> usize {
-        Self::encode_data(value, Write, buffer)
-    }
 
     /// Parses a payload as port data of a family, as [`PayloadFamily::read`] does.
     ///
@@ -115,33 +105,20 @@ pub trait DataLayer: Eq + Sized {
         buffer: &mut [u8],
     ) -> Q::Answer;
 
-    /// Encodes port data: makes a call on its canonical payload.
+    /// Encodes port data: measures its canonical payload ([`FitLen`]), or writes it ([`Write`]).
     ///
     /// # Panics
     ///
     /// May panic where a condition of the caller that is named here does not hold. Where it does
     /// not panic then, the result has no meaning.
+    ///
+    /// [`FitLen`]: crate::layers::data::FitLen
+    /// [`Write`]: crate::layers::data::Write
     fn encode_port_data<E: Encode>(
         value: &Self::PortData,
         encode: E,
         buffer: &mut [u8],
     ) -> E::Answer;
-
-    /// Returns the length of the canonical payload of port data, or `None` if it does not fit.
-    fn port_data_fit_len(value: &Self::PortData) -> Option<usize> {
-        Self::encode_port_data(value, FitLen, &mut [])
-    }
-
-    /// Writes the canonical payload of port data to the front of the buffer, and returns its
-    /// length.
-    ///
-    /// # Panics
-    ///
-    /// May panic where a condition of the caller that is named here does not hold. Where it does
-    /// not panic then, the result has no meaning.
-    fn write_port_data(value: &Self::PortData, buffer: &mut [u8]) -> usize {
-        Self::encode_port_data(value, Write, buffer)
-    }
 }
 
 /// The layer of a peer, whose families are opaque.
@@ -157,9 +134,9 @@ impl<P: LinkPeer> DataLayer for P {
     ) -> Result<InfoDataOf<P>, DecodeError> {
         match family {
             DataFamily::Lower(family) => Ok(of_lower!(family, read(payload, count))),
-            DataFamily::Device(family) => family.read(payload, count),
-            DataFamily::Tunnel(family) => family.read(payload, count),
-            DataFamily::Peered(family) => family.read(payload, count),
+            DataFamily::Device(family) => Ok(of_device!(family, read(payload, count))),
+            DataFamily::Tunnel(family) => Ok(of_tunnel!(family, read(payload, count))),
+            DataFamily::Peered(family) => Ok(of_peered!(family, read(payload, count))),
             DataFamily::Raw => Ok(InfoDataOf::Other(Bytes::copy_of(payload)?)),
         }
     }
@@ -173,9 +150,9 @@ impl<P: LinkPeer> DataLayer for P {
     ) -> Q::Answer {
         match family {
             DataFamily::Lower(family) => of_lower!(family, ask(question, count, buffer)),
-            DataFamily::Device(family) => PayloadFamily::<P>::ask(family, question, count, buffer),
-            DataFamily::Tunnel(family) => PayloadFamily::<P>::ask(family, question, count, buffer),
-            DataFamily::Peered(family) => PayloadFamily::<P>::ask(family, question, count, buffer),
+            DataFamily::Device(family) => of_device!(family, ask(question, count, buffer)),
+            DataFamily::Tunnel(family) => of_tunnel!(family, ask(question, count, buffer)),
+            DataFamily::Peered(family) => of_peered!(family, ask(question, count, buffer)),
             DataFamily::Raw => question.of_bytes(count, buffer),
         }
     }
@@ -264,9 +241,9 @@ where
     ) -> Result<InfoDataOf<Layered<L>>, DecodeError> {
         match family {
             DataFamily::Lower(family) => Ok(of_lower!(family, read(payload, count))),
-            DataFamily::Device(family) => family.read(payload, count),
-            DataFamily::Tunnel(family) => family.read(payload, count),
-            DataFamily::Peered(family) => family.read(payload, count),
+            DataFamily::Device(family) => Ok(of_device!(family, read(payload, count))),
+            DataFamily::Tunnel(family) => Ok(of_tunnel!(family, read(payload, count))),
+            DataFamily::Peered(family) => Ok(of_peered!(family, read(payload, count))),
             DataFamily::Raw => Ok(InfoDataOf::Other(Bytes::copy_of(payload)?)),
         }
     }
@@ -280,15 +257,9 @@ where
     ) -> Q::Answer {
         match family {
             DataFamily::Lower(family) => of_lower!(family, ask(question, count, buffer)),
-            DataFamily::Device(family) => {
-                PayloadFamily::<Layered<L>>::ask(family, question, count, buffer)
-            }
-            DataFamily::Tunnel(family) => {
-                PayloadFamily::<Layered<L>>::ask(family, question, count, buffer)
-            }
-            DataFamily::Peered(family) => {
-                PayloadFamily::<Layered<L>>::ask(family, question, count, buffer)
-            }
+            DataFamily::Device(family) => of_device!(family, ask(question, count, buffer)),
+            DataFamily::Tunnel(family) => of_tunnel!(family, ask(question, count, buffer)),
+            DataFamily::Peered(family) => of_peered!(family, ask(question, count, buffer)),
             DataFamily::Raw => question.of_bytes(count, buffer),
         }
     }

@@ -2,17 +2,7 @@
 
 //! Data of veth, vxcan, netkit, wireguard, batadv, wwan and pfcp links.
 
-use crate::layers::data::ask::Ask;
-use crate::layers::data::calls::{ask, read};
-use crate::layers::data::info_data::InfoDataOf;
-use crate::layers::data::payload_family::PayloadFamily;
-// Begin: written by tables/generate from tables/kinds (types).
-use crate::layers::peers::{
-    InfoBatAdv, InfoNetkitOf, InfoPfcp, InfoVethOf, InfoVxcanOf, InfoWireguard, InfoWwan,
-};
-// End: written by tables/generate.
-use crate::layers::nla_frame::{DecodeError, ExactEq, HeaderCount};
-use crate::layers::table::LinkLayer;
+use crate::layers::nla_frame::ExactEq;
 
 /// The families of data of links with a peer (veth, vxcan and netkit), and of wireguard, batadv,
 /// wwan and pfcp links.
@@ -43,33 +33,36 @@ macro_rules! of_peered {
     ($family:expr, $call:ident $given:tt) => {
         match $family {
             // Begin: written by tables/generate from tables/kinds (calls).
-            PeeredFamily::Veth => $call!(first(InfoDataOf::Veth, InfoVethOf<P::Peer>, ()) $given),
+            PeeredFamily::Veth => $call!(first(
+                InfoDataOf::Veth,
+                crate::layers::peers::InfoVethOf<<Self as LinkLayer>::Peer>,
+                ()
+            ) $given),
             PeeredFamily::Wireguard => {
-                $call!(list(InfoDataOf::Wireguard, InfoWireguard, ()) $given)
+                $call!(list(InfoDataOf::Wireguard, crate::layers::peers::InfoWireguard, ()) $given)
             }
-            PeeredFamily::Netkit => {
-                $call!(list(InfoDataOf::Netkit, InfoNetkitOf<P::Peer>, ()) $given)
+            PeeredFamily::Netkit => $call!(list(
+                InfoDataOf::Netkit,
+                crate::layers::peers::InfoNetkitOf<<Self as LinkLayer>::Peer>,
+                ()
+            ) $given),
+            PeeredFamily::Vxcan => $call!(first(
+                InfoDataOf::Vxcan,
+                crate::layers::peers::InfoVxcanOf<<Self as LinkLayer>::Peer>,
+                ()
+            ) $given),
+            PeeredFamily::BatAdv => {
+                $call!(list(InfoDataOf::BatAdv, crate::layers::peers::InfoBatAdv, ()) $given)
             }
-            PeeredFamily::Vxcan => {
-                $call!(first(InfoDataOf::Vxcan, InfoVxcanOf<P::Peer>, ()) $given)
+            PeeredFamily::Wwan => {
+                $call!(list(InfoDataOf::Wwan, crate::layers::peers::InfoWwan, ()) $given)
             }
-            PeeredFamily::BatAdv => $call!(list(InfoDataOf::BatAdv, InfoBatAdv, ()) $given),
-            PeeredFamily::Wwan => $call!(list(InfoDataOf::Wwan, InfoWwan, ()) $given),
-            PeeredFamily::Pfcp => $call!(list(InfoDataOf::Pfcp, InfoPfcp, ()) $given),
+            PeeredFamily::Pfcp => {
+                $call!(list(InfoDataOf::Pfcp, crate::layers::peers::InfoPfcp, ()) $given)
+            }
             // End: written by tables/generate.
         }
     };
 }
 
-impl<P: LinkLayer> PayloadFamily<P> for PeeredFamily {
-    type Data = InfoDataOf<P>;
-
-    fn read(self, payload: &[u8], count: &mut HeaderCount) -> Result<InfoDataOf<P>, DecodeError> {
-        Ok(of_peered!(self, read(payload, count)))
-    }
-
-    #[inline(always)]
-    fn ask<Q: Ask>(self, question: Q, count: &mut HeaderCount, buffer: &mut [u8]) -> Q::Answer {
-        of_peered!(self, ask(question, count, buffer))
-    }
-}
+pub(crate) use of_peered;

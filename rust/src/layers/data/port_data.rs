@@ -3,6 +3,7 @@
 //! The data of a port: `IFLA_INFO_SLAVE_DATA`, include/uapi/linux/if_link.h.
 
 use crate::layers::data::ask::Ask;
+use crate::layers::data::encode::{FitLen, Write};
 use crate::layers::data::layer::DataLayer;
 use crate::layers::data::payload_family::PayloadFamily;
 use crate::layers::devices::InfoVrfPort;
@@ -151,7 +152,7 @@ impl<P: LinkLayer + DataLayer<PortData = InfoPortDataOf<P>>> Nla for InfoPortDat
 
     #[inline]
     fn emit_payload(&self, buffer: &mut [u8]) -> usize {
-        P::write_port_data(self, buffer)
+        P::encode_port_data(self, Write, buffer)
     }
 
     #[inline]
@@ -161,7 +162,7 @@ impl<P: LinkLayer + DataLayer<PortData = InfoPortDataOf<P>>> Nla for InfoPortDat
 
     #[inline]
     fn fit_len(&self) -> Option<usize> {
-        P::port_data_fit_len(self)
+        P::encode_port_data(self, FitLen, &mut [])
     }
 }
 

@@ -2,18 +2,8 @@
 
 //! Data of tunnels.
 
-use crate::layers::data::ask::Ask;
-use crate::layers::data::calls::{ask, read};
-use crate::layers::data::info_data::InfoDataOf;
-use crate::layers::data::payload_family::PayloadFamily;
+use crate::layers::nla_frame::ExactEq;
 use crate::layers::numbers::KindTag;
-use crate::layers::table::LinkLayer;
-// Begin: written by tables/generate from tables/kinds (types).
-use crate::layers::tunnels::{
-    InfoAmt, InfoBareUdp, InfoGeneve, InfoGre, InfoGre6, InfoGtp, InfoIpTunnel, InfoVti, InfoVxlan,
-};
-// End: written by tables/generate.
-use crate::layers::nla_frame::{DecodeError, ExactEq, HeaderCount};
 
 /// The families of data of tunnels.
 #[derive(Clone, Copy, Debug, PartialEq, Eq, Hash, PartialOrd, Ord)]
@@ -55,35 +45,48 @@ macro_rules! of_tunnel {
     ($family:expr, $call:ident $given:tt) => {
         match $family {
             // Begin: written by tables/generate from tables/kinds (calls).
-            TunnelFamily::Vxlan => $call!(list(InfoDataOf::Vxlan, InfoVxlan, ()) $given),
-            TunnelFamily::GreTap => $call!(list(InfoDataOf::GreTap, InfoGre, ()) $given),
-            TunnelFamily::GreTap6 => $call!(list(InfoDataOf::GreTap6, InfoGre6, ()) $given),
-            TunnelFamily::IpTunnel(tag) => {
-                $call!(list(InfoDataOf::IpTunnel, InfoIpTunnel, tag) $given)
+            TunnelFamily::Vxlan => {
+                $call!(list(InfoDataOf::Vxlan, crate::layers::tunnels::InfoVxlan, ()) $given)
             }
-            TunnelFamily::GreTun => $call!(list(InfoDataOf::GreTun, InfoGre, ()) $given),
-            TunnelFamily::GreTun6 => $call!(list(InfoDataOf::GreTun6, InfoGre6, ()) $given),
-            TunnelFamily::Vti => $call!(list(InfoDataOf::Vti, InfoVti, ()) $given),
-            TunnelFamily::Gtp => $call!(list(InfoDataOf::Gtp, InfoGtp, ()) $given),
-            TunnelFamily::Geneve => $call!(list(InfoDataOf::Geneve, InfoGeneve, ()) $given),
-            TunnelFamily::Amt => $call!(list(InfoDataOf::Amt, InfoAmt, ()) $given),
-            TunnelFamily::BareUdp => $call!(list(InfoDataOf::BareUdp, InfoBareUdp, ()) $given),
-            TunnelFamily::ErSpan => $call!(list(InfoDataOf::ErSpan, InfoGre, ()) $given),
-            TunnelFamily::Ip6ErSpan => $call!(list(InfoDataOf::Ip6ErSpan, InfoGre6, ()) $given),
+            TunnelFamily::GreTap => {
+                $call!(list(InfoDataOf::GreTap, crate::layers::tunnels::InfoGre, ()) $given)
+            }
+            TunnelFamily::GreTap6 => {
+                $call!(list(InfoDataOf::GreTap6, crate::layers::tunnels::InfoGre6, ()) $given)
+            }
+            TunnelFamily::IpTunnel(tag) => {
+                $call!(list(InfoDataOf::IpTunnel, crate::layers::tunnels::InfoIpTunnel, tag) $given)
+            }
+            TunnelFamily::GreTun => {
+                $call!(list(InfoDataOf::GreTun, crate::layers::tunnels::InfoGre, ()) $given)
+            }
+            TunnelFamily::GreTun6 => {
+                $call!(list(InfoDataOf::GreTun6, crate::layers::tunnels::InfoGre6, ()) $given)
+            }
+            TunnelFamily::Vti => {
+                $call!(list(InfoDataOf::Vti, crate::layers::tunnels::InfoVti, ()) $given)
+            }
+            TunnelFamily::Gtp => {
+                $call!(list(InfoDataOf::Gtp, crate::layers::tunnels::InfoGtp, ()) $given)
+            }
+            TunnelFamily::Geneve => {
+                $call!(list(InfoDataOf::Geneve, crate::layers::tunnels::InfoGeneve, ()) $given)
+            }
+            TunnelFamily::Amt => {
+                $call!(list(InfoDataOf::Amt, crate::layers::tunnels::InfoAmt, ()) $given)
+            }
+            TunnelFamily::BareUdp => {
+                $call!(list(InfoDataOf::BareUdp, crate::layers::tunnels::InfoBareUdp, ()) $given)
+            }
+            TunnelFamily::ErSpan => {
+                $call!(list(InfoDataOf::ErSpan, crate::layers::tunnels::InfoGre, ()) $given)
+            }
+            TunnelFamily::Ip6ErSpan => {
+                $call!(list(InfoDataOf::Ip6ErSpan, crate::layers::tunnels::InfoGre6, ()) $given)
+            }
             // End: written by tables/generate.
         }
     };
 }
 
-impl<P: LinkLayer> PayloadFamily<P> for TunnelFamily {
-    type Data = InfoDataOf<P>;
-
-    fn read(self, payload: &[u8], count: &mut HeaderCount) -> Result<InfoDataOf<P>, DecodeError> {
-        Ok(of_tunnel!(self, read(payload, count)))
-    }
-
-    #[inline(always)]
-    fn ask<Q: Ask>(self, question: Q, count: &mut HeaderCount, buffer: &mut [u8]) -> Q::Answer {
-        of_tunnel!(self, ask(question, count, buffer))
-    }
-}
+pub(crate) use of_tunnel;

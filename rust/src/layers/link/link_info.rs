@@ -2,7 +2,7 @@
 
 //! Attributes of the list inside `IFLA_LINKINFO`, include/uapi/linux/if_link.h.
 
-use crate::layers::data::DataLayer;
+use crate::layers::data::{DataLayer, FitLen, Write};
 use crate::layers::link::xstats::LinkXstats;
 use crate::layers::nla_frame::{Bytes, DefaultNla, Emitable, ExactEq, Nla, fitting};
 use crate::layers::numbers::{
@@ -37,9 +37,9 @@ impl<P: DataLayer> Nla for LinkInfoOf<P> {
         match self {
             LinkInfoOf::Xstats(xstats) => xstats.buffer_len(),
             LinkInfoOf::Kind(kind) => kind.value_len(),
-            LinkInfoOf::Data(data) => P::data_fit_len(data).unwrap_or(0),
+            LinkInfoOf::Data(data) => P::encode_data(data, FitLen, &mut []).unwrap_or(0),
             LinkInfoOf::PortKind(kind) => kind.value_len(),
-            LinkInfoOf::PortData(data) => P::port_data_fit_len(data).unwrap_or(0),
+            LinkInfoOf::PortData(data) => P::encode_port_data(data, FitLen, &mut []).unwrap_or(0),
             LinkInfoOf::Other(nla) => nla.value_len(),
         }
     }
@@ -64,9 +64,9 @@ impl<P: DataLayer> Nla for LinkInfoOf<P> {
                 xstats.buffer_len()
             }
             LinkInfoOf::Kind(kind) => kind.emit_payload(buffer),
-            LinkInfoOf::Data(data) => P::write_data(data, buffer),
+            LinkInfoOf::Data(data) => P::encode_data(data, Write, buffer),
             LinkInfoOf::PortKind(kind) => kind.emit_payload(buffer),
-            LinkInfoOf::PortData(data) => P::write_port_data(data, buffer),
+            LinkInfoOf::PortData(data) => P::encode_port_data(data, Write, buffer),
             LinkInfoOf::Other(nla) => nla.emit_payload(buffer),
         }
     }
@@ -81,9 +81,9 @@ impl<P: DataLayer> Nla for LinkInfoOf<P> {
         match self {
             LinkInfoOf::Xstats(xstats) => fitting(xstats.buffer_len()),
             LinkInfoOf::Kind(kind) => kind.fit_len(),
-            LinkInfoOf::Data(data) => P::data_fit_len(data),
+            LinkInfoOf::Data(data) => P::encode_data(data, FitLen, &mut []),
             LinkInfoOf::PortKind(kind) => kind.fit_len(),
-            LinkInfoOf::PortData(data) => P::port_data_fit_len(data),
+            LinkInfoOf::PortData(data) => P::encode_port_data(data, FitLen, &mut []),
             LinkInfoOf::Other(nla) => nla.fit_len(),
         }
     }
