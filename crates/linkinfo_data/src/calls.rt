@@ -7,13 +7,13 @@
 /// Parses a payload.
 macro_rules! read {
     (list($variant:path, $nla:ty, $ctx:expr) ($alloc:ident, $payload:expr, $count:expr)) => {
-        $variant(crate::reading::read_nlas($alloc, $payload, $ctx, $count)?)
+        Ok($variant(crate::reading::read_nlas($alloc, $payload, $ctx, $count)?))
     };
     (first($variant:path, $nla:ty, $ctx:expr) ($alloc:ident, $payload:expr, $count:expr)) => {
-        $variant(linkinfo_table::first_read($alloc, $payload, $ctx, $count)?)
+        Ok($variant(linkinfo_table::first_read($alloc, $payload, $ctx, $count)?))
     };
     (bytes($variant:path) ($alloc:ident, $payload:expr, $count:expr)) => {
-        $variant(nla_frame::Bytes::copy_of($alloc, $payload)?)
+        Ok($variant(nla_frame::Bytes::copy_of($alloc, $payload)?))
     };
 }
 

@@ -148,10 +148,10 @@ impl<P: LinkPeer> DataLayer for P {
         count: &mut HeaderCount,
     ) -> Result<InfoDataOf<P>, DecodeError> {
         match family {
-            DataFamily::Lower(family) => Ok(of_lower!(family, read(alloc, payload, count))),
-            DataFamily::Device(family) => Ok(of_device!(family, read(alloc, payload, count))),
-            DataFamily::Tunnel(family) => Ok(of_tunnel!(family, read(alloc, payload, count))),
-            DataFamily::Peered(family) => Ok(of_peered!(family, read(alloc, payload, count))),
+            DataFamily::Lower(family) => of_lower!(family, read(alloc, payload, count)),
+            DataFamily::Device(family) => of_device!(family, read(alloc, payload, count)),
+            DataFamily::Tunnel(family) => of_tunnel!(family, read(alloc, payload, count)),
+            DataFamily::Peered(family) => of_peered!(family, read(alloc, payload, count)),
             DataFamily::Raw => Ok(InfoDataOf::Other(Bytes::copy_of(alloc, payload)?)),
         }
     }
@@ -183,7 +183,7 @@ impl<P: LinkPeer> DataLayer for P {
         payload: &[u8],
         count: &mut HeaderCount,
     ) -> Result<InfoPortDataOf<P>, DecodeError> {
-        Ok(of_port!(family, read(alloc, payload, count)))
+        of_port!(family, read(alloc, payload, count))
     }
 
     #[inline(always)]
@@ -271,10 +271,10 @@ where
         count: &mut HeaderCount,
     ) -> Result<InfoDataOf<Layered<L>>, DecodeError> {
         match family {
-            DataFamily::Lower(family) => Ok(of_lower!(family, read(alloc, payload, count))),
-            DataFamily::Device(family) => Ok(of_device!(family, read(alloc, payload, count))),
-            DataFamily::Tunnel(family) => Ok(of_tunnel!(family, read(alloc, payload, count))),
-            DataFamily::Peered(family) => Ok(of_peered!(family, read(alloc, payload, count))),
+            DataFamily::Lower(family) => of_lower!(family, read(alloc, payload, count)),
+            DataFamily::Device(family) => of_device!(family, read(alloc, payload, count)),
+            DataFamily::Tunnel(family) => of_tunnel!(family, read(alloc, payload, count)),
+            DataFamily::Peered(family) => of_peered!(family, read(alloc, payload, count)),
             DataFamily::Raw => Ok(InfoDataOf::Other(Bytes::copy_of(alloc, payload)?)),
         }
     }
@@ -310,7 +310,7 @@ where
         payload: &[u8],
         count: &mut HeaderCount,
     ) -> Result<InfoPortDataOf<Layered<L>>, DecodeError> {
-        Ok(of_port!(family, read(alloc, payload, count)))
+        of_port!(family, read(alloc, payload, count))
     }
 
     #[inline(always)]
