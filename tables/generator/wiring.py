@@ -55,9 +55,9 @@ def data_row(ours, families, names):
         "declared": family.snake if form == "twin" else name,
         "module": family.module if first else name.lower(),
         "type": of.get(form, holder),
-        "called": f"<Self as LinkLayer>::{name}" if form == "supplied" else
+        "called": f"<$layer as LinkLayer>::{name}" if form == "supplied" else
                   f"{kinds.GROUPS[kind.group]}::" + of.get(form, holder).replace(
-                      "P::Peer", "<Self as LinkLayer>::Peer"),
+                      "P::Peer", "<$layer as LinkLayer>::Peer"),
         "members": family and f"{family.type}Of {int(not first)}", "crate": crate,
         "spec": family and family.spec, "names": f" (`{prefix}*`)" if family else "",
         "these": listed(family.kinds) if family else "",
@@ -123,6 +123,8 @@ def outputs(tables):
     found = of_kinds(tables, kinds.read(tables.root, "ports"), {row["data"]: row for row in rows})
     found |= {"data": rows, "tables": unique(listed_in, "declared"), "plain": listed_in,
               "flat": [row for row in ordered if not row["form"]], "Tunnel": groups[2],
+              "asked": [{**row, "goal": "of_list-requires" + f"-in-{row['data']}" * (at > 0)}
+                        for at, row in enumerate(groups[2])],
               "typed": [{"family": it} for of in tables.present if of.typed for it in of.families],
               "laws": [row for row in unique(rows, "plain")
                        if row in listed_in and row["form"] != "twin"]}

@@ -1,6 +1,15 @@
 //! Data of ipvlan, ipvtap, macvlan, macvtap, vrf, ipoib, xfrm, macsec and rmnet links.
 
-use nla_frame::ExactEq;
+ghost use Rattle.linkinfo_data.specs.Layered.{layer_types};
+ghost use Rattle.linkinfo_data.specs.DeviceData.{devices_data_of, devices_known};
+
+use crate::ask::Ask;
+use crate::calls::{ask, read};
+use crate::info_data::InfoDataOf;
+use crate::payload_family::PayloadFamily;
+use linkinfo_table::LinkLayer;
+use nla_frame::{DecodeError, ExactEq, HeaderCount};
+use std::alloc::Global;
 
 /// The families of data of ipvlan, ipvtap, macvlan, macvtap, vrf, ipoib, xfrm, macsec and rmnet
 /// links.
@@ -38,7 +47,7 @@ impl ExactEq for DeviceFamily {
 
 /// Matches a family of devices, and expands `$call!`, of `calls`, for its data.
 macro_rules! of_device {
-    ($family:expr, $call:ident $given:tt) => {
+    ($layer:ty, $family:expr, $call:ident $given:tt) => {
         match $family {
             // Begin: written by tables/generate from tables/kinds (calls).
             DeviceFamily::IpVlan => {
@@ -71,6 +80,30 @@ macro_rules! of_device {
             // End: written by tables/generate.
         }
     };
+}
+
+impl<P: LinkLayer> PayloadFamily<P> for DeviceFamily {
+    type Data = InfoDataOf<P>;
+
+    ghost data_of = { devices_data_of (layer_types P P.Peer P.Bond P.Bridge P.Vlan P.Can P.Hsr
+        P.Dsa P.Tun P.BondPort P.BridgePort) };
+
+    ghost known = { devices_known (layer_types P P.Peer P.Bond P.Bridge P.Vlan P.Can P.Hsr
+        P.Dsa P.Tun P.BondPort P.BridgePort) };
+
+    fn read(
+        self,
+        alloc: Global,
+        payload: &[u8],
+        count: &mut HeaderCount,
+    ) -> Result<InfoDataOf<P>, DecodeError> {
+        of_device!(P, self, read(alloc, payload, count))
+    }
+
+    #[inline(always)]
+    fn ask<Q: Ask>(self, question: Q, count: &mut HeaderCount, buffer: &mut [u8]) -> Q::Answer {
+        of_device!(P, self, ask(question, count, buffer))
+    }
 }
 
 pub(crate) use of_device;

@@ -18,6 +18,7 @@ use crate::encode::Encode;
 use crate::info_data::{InfoDataOf, encode_data};
 use crate::laws::families_lawful_by;
 use crate::lower::{LowerFamily, of_lower};
+use crate::payload_family::PayloadFamily;
 use crate::peers::{PeeredFamily, of_peered};
 use crate::port_data::{InfoPortDataOf, PortFamily, encode_port_data, of_port};
 use crate::tunnels::{TunnelFamily, of_tunnel};
@@ -148,10 +149,10 @@ impl<P: LinkPeer> DataLayer for P {
         count: &mut HeaderCount,
     ) -> Result<InfoDataOf<P>, DecodeError> {
         match family {
-            DataFamily::Lower(family) => of_lower!(family, read(alloc, payload, count)),
-            DataFamily::Device(family) => of_device!(family, read(alloc, payload, count)),
-            DataFamily::Tunnel(family) => of_tunnel!(family, read(alloc, payload, count)),
-            DataFamily::Peered(family) => of_peered!(family, read(alloc, payload, count)),
+            DataFamily::Lower(family) => of_lower!(P, family, read(alloc, payload, count)),
+            DataFamily::Device(family) => of_device!(P, family, read(alloc, payload, count)),
+            DataFamily::Tunnel(family) => of_tunnel!(P, family, read(alloc, payload, count)),
+            DataFamily::Peered(family) => of_peered!(P, family, read(alloc, payload, count)),
             DataFamily::Raw => Ok(InfoDataOf::Other(Bytes::copy_of(alloc, payload)?)),
         }
     }
@@ -164,10 +165,10 @@ impl<P: LinkPeer> DataLayer for P {
         buffer: &mut [u8],
     ) -> Q::Answer {
         match family {
-            DataFamily::Lower(family) => of_lower!(family, ask(question, count, buffer)),
-            DataFamily::Device(family) => of_device!(family, ask(question, count, buffer)),
-            DataFamily::Tunnel(family) => of_tunnel!(family, ask(question, count, buffer)),
-            DataFamily::Peered(family) => of_peered!(family, ask(question, count, buffer)),
+            DataFamily::Lower(family) => of_lower!(P, family, ask(question, count, buffer)),
+            DataFamily::Device(family) => of_device!(P, family, ask(question, count, buffer)),
+            DataFamily::Tunnel(family) => of_tunnel!(P, family, ask(question, count, buffer)),
+            DataFamily::Peered(family) => of_peered!(P, family, ask(question, count, buffer)),
             DataFamily::Raw => question.of_bytes(count, buffer),
         }
     }
@@ -183,7 +184,7 @@ impl<P: LinkPeer> DataLayer for P {
         payload: &[u8],
         count: &mut HeaderCount,
     ) -> Result<InfoPortDataOf<P>, DecodeError> {
-        of_port!(family, read(alloc, payload, count))
+        of_port!(P, family, read(alloc, payload, count))
     }
 
     #[inline(always)]
@@ -193,7 +194,7 @@ impl<P: LinkPeer> DataLayer for P {
         count: &mut HeaderCount,
         buffer: &mut [u8],
     ) -> Q::Answer {
-        of_port!(family, ask(question, count, buffer))
+        of_port!(P, family, ask(question, count, buffer))
     }
 
     #[tactic(auto, unfolding(crate::specs::PortData::port_data_payload))]
@@ -271,10 +272,10 @@ where
         count: &mut HeaderCount,
     ) -> Result<InfoDataOf<Layered<L>>, DecodeError> {
         match family {
-            DataFamily::Lower(family) => of_lower!(family, read(alloc, payload, count)),
-            DataFamily::Device(family) => of_device!(family, read(alloc, payload, count)),
-            DataFamily::Tunnel(family) => of_tunnel!(family, read(alloc, payload, count)),
-            DataFamily::Peered(family) => of_peered!(family, read(alloc, payload, count)),
+            DataFamily::Lower(family) => of_lower!(Layered<L>, family, read(alloc, payload, count)),
+            DataFamily::Device(family) => family.read(alloc, payload, count),
+            DataFamily::Tunnel(family) => family.read(alloc, payload, count),
+            DataFamily::Peered(family) => family.read(alloc, payload, count),
             DataFamily::Raw => Ok(InfoDataOf::Other(Bytes::copy_of(alloc, payload)?)),
         }
     }
@@ -287,10 +288,17 @@ where
         buffer: &mut [u8],
     ) -> Q::Answer {
         match family {
-            DataFamily::Lower(family) => of_lower!(family, ask(question, count, buffer)),
-            DataFamily::Device(family) => of_device!(family, ask(question, count, buffer)),
-            DataFamily::Tunnel(family) => of_tunnel!(family, ask(question, count, buffer)),
-            DataFamily::Peered(family) => of_peered!(family, ask(question, count, buffer)),
+            DataFamily::Lower(family) =>
+                of_lower!(Layered<L>, family, ask(question, count, buffer)),
+            DataFamily::Device(family) => {
+                PayloadFamily::<Layered<L>>::ask(family, question, count, buffer)
+            },
+            DataFamily::Tunnel(family) => {
+                PayloadFamily::<Layered<L>>::ask(family, question, count, buffer)
+            },
+            DataFamily::Peered(family) => {
+                PayloadFamily::<Layered<L>>::ask(family, question, count, buffer)
+            },
             DataFamily::Raw => question.of_bytes(count, buffer),
         }
     }
@@ -310,7 +318,7 @@ where
         payload: &[u8],
         count: &mut HeaderCount,
     ) -> Result<InfoPortDataOf<Layered<L>>, DecodeError> {
-        of_port!(family, read(alloc, payload, count))
+        of_port!(Layered<L>, family, read(alloc, payload, count))
     }
 
     #[inline(always)]
@@ -320,7 +328,7 @@ where
         count: &mut HeaderCount,
         buffer: &mut [u8],
     ) -> Q::Answer {
-        of_port!(family, ask(question, count, buffer))
+        of_port!(Layered<L>, family, ask(question, count, buffer))
     }
 
     #[tactic(auto, unfolding(crate::specs::PortData::port_data_payload))]

@@ -34,22 +34,30 @@ impl ExactEq for LowerFamily {
 /// `DataLayer` there names the types of the attributes: a body that is generic over them would have
 /// each call of a concrete layer carry what they are required to implement.
 macro_rules! of_lower {
-    ($family:expr, $call:ident $given:tt) => {
+    ($layer:ty, $family:expr, $call:ident $given:tt) => {
         match $family {
             // Begin: written by tables/generate from tables/kinds (calls).
             LowerFamily::Bridge => {
-                $call!(list(InfoDataOf::Bridge, <Self as LinkLayer>::Bridge, ()) $given)
+                $call!(list(InfoDataOf::Bridge, <$layer as LinkLayer>::Bridge, ()) $given)
             }
-            LowerFamily::Tun => $call!(list(InfoDataOf::Tun, <Self as LinkLayer>::Tun, ()) $given),
+            LowerFamily::Tun => {
+                $call!(list(InfoDataOf::Tun, <$layer as LinkLayer>::Tun, ()) $given)
+            }
             LowerFamily::Vlan => {
-                $call!(list(InfoDataOf::Vlan, <Self as LinkLayer>::Vlan, ()) $given)
+                $call!(list(InfoDataOf::Vlan, <$layer as LinkLayer>::Vlan, ()) $given)
             }
             LowerFamily::Bond => {
-                $call!(list(InfoDataOf::Bond, <Self as LinkLayer>::Bond, ()) $given)
+                $call!(list(InfoDataOf::Bond, <$layer as LinkLayer>::Bond, ()) $given)
             }
-            LowerFamily::Hsr => $call!(list(InfoDataOf::Hsr, <Self as LinkLayer>::Hsr, ()) $given),
-            LowerFamily::Can => $call!(list(InfoDataOf::Can, <Self as LinkLayer>::Can, ()) $given),
-            LowerFamily::Dsa => $call!(list(InfoDataOf::Dsa, <Self as LinkLayer>::Dsa, ()) $given),
+            LowerFamily::Hsr => {
+                $call!(list(InfoDataOf::Hsr, <$layer as LinkLayer>::Hsr, ()) $given)
+            }
+            LowerFamily::Can => {
+                $call!(list(InfoDataOf::Can, <$layer as LinkLayer>::Can, ()) $given)
+            }
+            LowerFamily::Dsa => {
+                $call!(list(InfoDataOf::Dsa, <$layer as LinkLayer>::Dsa, ()) $given)
+            }
             // End: written by tables/generate.
         }
     };

@@ -1,6 +1,15 @@
 //! Data of veth, vxcan, netkit, wireguard, batadv, wwan and pfcp links.
 
-use nla_frame::ExactEq;
+ghost use Rattle.linkinfo_data.specs.Layered.{layer_types};
+ghost use Rattle.linkinfo_data.specs.PeerData.{peers_data_of, peers_known};
+
+use crate::ask::Ask;
+use crate::calls::{ask, read};
+use crate::info_data::InfoDataOf;
+use crate::payload_family::PayloadFamily;
+use linkinfo_table::LinkLayer;
+use nla_frame::{DecodeError, ExactEq, HeaderCount};
+use std::alloc::Global;
 
 /// The families of data of links with a peer (veth, vxcan and netkit), and of wireguard, batadv,
 /// wwan and pfcp links.
@@ -32,12 +41,12 @@ impl ExactEq for PeeredFamily {
 
 /// Matches a family, and expands `$call!`, of `calls`, for its data.
 macro_rules! of_peered {
-    ($family:expr, $call:ident $given:tt) => {
+    ($layer:ty, $family:expr, $call:ident $given:tt) => {
         match $family {
             // Begin: written by tables/generate from tables/kinds (calls).
             PeeredFamily::Veth => $call!(first(
                 InfoDataOf::Veth,
-                linkinfo_peers::InfoVethOf<<Self as LinkLayer>::Peer>,
+                linkinfo_peers::InfoVethOf<<$layer as LinkLayer>::Peer>,
                 ()
             ) $given),
             PeeredFamily::Wireguard => {
@@ -45,12 +54,12 @@ macro_rules! of_peered {
             }
             PeeredFamily::Netkit => $call!(list(
                 InfoDataOf::Netkit,
-                linkinfo_peers::InfoNetkitOf<<Self as LinkLayer>::Peer>,
+                linkinfo_peers::InfoNetkitOf<<$layer as LinkLayer>::Peer>,
                 ()
             ) $given),
             PeeredFamily::Vxcan => $call!(first(
                 InfoDataOf::Vxcan,
-                linkinfo_peers::InfoVxcanOf<<Self as LinkLayer>::Peer>,
+                linkinfo_peers::InfoVxcanOf<<$layer as LinkLayer>::Peer>,
                 ()
             ) $given),
             PeeredFamily::BatAdv => {
@@ -65,6 +74,32 @@ macro_rules! of_peered {
             // End: written by tables/generate.
         }
     };
+}
+
+impl<P: LinkLayer> PayloadFamily<P> for PeeredFamily {
+    type Data = InfoDataOf<P>;
+
+    ghost data_of = { peers_data_of (layer_types P P.Peer P.Bond P.Bridge P.Vlan P.Can P.Hsr
+        P.Dsa P.Tun P.BondPort P.BridgePort)
+        P.Peer.LinkPeer.own };
+
+    ghost known = { peers_known (layer_types P P.Peer P.Bond P.Bridge P.Vlan P.Can P.Hsr
+        P.Dsa P.Tun P.BondPort P.BridgePort)
+        P.Peer.LinkPeer.own };
+
+    fn read(
+        self,
+        alloc: Global,
+        payload: &[u8],
+        count: &mut HeaderCount,
+    ) -> Result<InfoDataOf<P>, DecodeError> {
+        of_peered!(P, self, read(alloc, payload, count))
+    }
+
+    #[inline(always)]
+    fn ask<Q: Ask>(self, question: Q, count: &mut HeaderCount, buffer: &mut [u8]) -> Q::Answer {
+        of_peered!(P, self, ask(question, count, buffer))
+    }
 }
 
 pub(crate) use of_peered;

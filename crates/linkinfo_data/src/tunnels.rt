@@ -1,7 +1,16 @@
 //! Data of tunnels.
 
+ghost use Rattle.linkinfo_data.specs.Layered.{layer_types};
+ghost use Rattle.linkinfo_data.specs.TunnelData.{tunnels_data_of, tunnels_known};
+
+use crate::ask::Ask;
+use crate::calls::{ask, read};
+use crate::info_data::InfoDataOf;
+use crate::payload_family::PayloadFamily;
 use linkinfo_numbers::KindTag;
-use nla_frame::ExactEq;
+use linkinfo_table::LinkLayer;
+use nla_frame::{DecodeError, ExactEq, HeaderCount};
+use std::alloc::Global;
 
 /// The families of data of tunnels.
 #[derive(Clone, Copy, Debug, PartialEq, Eq)]
@@ -65,7 +74,7 @@ impl ExactEq for TunnelFamily {
 
 /// Matches a family of tunnels, and expands `$call!`, of `calls`, for its data.
 macro_rules! of_tunnel {
-    ($family:expr, $call:ident $given:tt) => {
+    ($layer:ty, $family:expr, $call:ident $given:tt) => {
         match $family {
             // Begin: written by tables/generate from tables/kinds (calls).
             TunnelFamily::Vxlan => {
@@ -110,6 +119,30 @@ macro_rules! of_tunnel {
             // End: written by tables/generate.
         }
     };
+}
+
+impl<P: LinkLayer> PayloadFamily<P> for TunnelFamily {
+    type Data = InfoDataOf<P>;
+
+    ghost data_of = { tunnels_data_of (layer_types P P.Peer P.Bond P.Bridge P.Vlan P.Can P.Hsr
+        P.Dsa P.Tun P.BondPort P.BridgePort) };
+
+    ghost known = { tunnels_known (layer_types P P.Peer P.Bond P.Bridge P.Vlan P.Can P.Hsr
+        P.Dsa P.Tun P.BondPort P.BridgePort) };
+
+    fn read(
+        self,
+        alloc: Global,
+        payload: &[u8],
+        count: &mut HeaderCount,
+    ) -> Result<InfoDataOf<P>, DecodeError> {
+        of_tunnel!(P, self, read(alloc, payload, count))
+    }
+
+    #[inline(always)]
+    fn ask<Q: Ask>(self, question: Q, count: &mut HeaderCount, buffer: &mut [u8]) -> Q::Answer {
+        of_tunnel!(P, self, ask(question, count, buffer))
+    }
 }
 
 pub(crate) use of_tunnel;

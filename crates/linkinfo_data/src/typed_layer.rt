@@ -86,10 +86,10 @@ impl<P: LinkPeer> DataLayer for Typed<P> {
         count: &mut HeaderCount,
     ) -> Result<InfoDataOf<Typed<P>>, DecodeError> {
         match family {
-            DataFamily::Lower(family) => of_lower!(family, read(alloc, payload, count)),
-            DataFamily::Device(family) => of_device!(family, read(alloc, payload, count)),
-            DataFamily::Tunnel(family) => of_tunnel!(family, read(alloc, payload, count)),
-            DataFamily::Peered(family) => of_peered!(family, read(alloc, payload, count)),
+            DataFamily::Lower(family) => of_lower!(Typed<P>, family, read(alloc, payload, count)),
+            DataFamily::Device(family) => of_device!(Typed<P>, family, read(alloc, payload, count)),
+            DataFamily::Tunnel(family) => of_tunnel!(Typed<P>, family, read(alloc, payload, count)),
+            DataFamily::Peered(family) => of_peered!(Typed<P>, family, read(alloc, payload, count)),
             DataFamily::Raw => Ok(InfoDataOf::Other(Bytes::copy_of(alloc, payload)?)),
         }
     }
@@ -102,10 +102,13 @@ impl<P: LinkPeer> DataLayer for Typed<P> {
         buffer: &mut [u8],
     ) -> Q::Answer {
         match family {
-            DataFamily::Lower(family) => of_lower!(family, ask(question, count, buffer)),
-            DataFamily::Device(family) => of_device!(family, ask(question, count, buffer)),
-            DataFamily::Tunnel(family) => of_tunnel!(family, ask(question, count, buffer)),
-            DataFamily::Peered(family) => of_peered!(family, ask(question, count, buffer)),
+            DataFamily::Lower(family) => of_lower!(Typed<P>, family, ask(question, count, buffer)),
+            DataFamily::Device(family) =>
+                of_device!(Typed<P>, family, ask(question, count, buffer)),
+            DataFamily::Tunnel(family) =>
+                of_tunnel!(Typed<P>, family, ask(question, count, buffer)),
+            DataFamily::Peered(family) =>
+                of_peered!(Typed<P>, family, ask(question, count, buffer)),
             DataFamily::Raw => question.of_bytes(count, buffer),
         }
     }
@@ -125,7 +128,7 @@ impl<P: LinkPeer> DataLayer for Typed<P> {
         payload: &[u8],
         count: &mut HeaderCount,
     ) -> Result<InfoPortDataOf<Typed<P>>, DecodeError> {
-        of_port!(family, read(alloc, payload, count))
+        of_port!(Typed<P>, family, read(alloc, payload, count))
     }
 
     #[inline(always)]
@@ -135,7 +138,7 @@ impl<P: LinkPeer> DataLayer for Typed<P> {
         count: &mut HeaderCount,
         buffer: &mut [u8],
     ) -> Q::Answer {
-        of_port!(family, ask(question, count, buffer))
+        of_port!(Typed<P>, family, ask(question, count, buffer))
     }
 
     #[tactic(auto, unfolding(crate::specs::PortData::port_data_payload))]

@@ -11,15 +11,19 @@
 /// Parses a payload.
 macro_rules! read {
     (list($variant:path, $nla:ty, $ctx:expr) ($payload:expr, $count:expr)) => {
-        $variant(crate::layers::data::reading::read_nlas(
+        Ok($variant(crate::layers::data::reading::read_nlas(
             $payload, $ctx, $count,
-        )?)
+        )?))
     };
     (first($variant:path, $nla:ty, $ctx:expr) ($payload:expr, $count:expr)) => {
-        $variant(crate::layers::table::first_read($payload, $ctx, $count)?)
+        Ok($variant(crate::layers::table::first_read(
+            $payload, $ctx, $count,
+        )?))
     };
     (bytes($variant:path) ($payload:expr, $count:expr)) => {
-        $variant(crate::layers::nla_frame::Bytes::copy_of($payload)?)
+        Ok($variant(crate::layers::nla_frame::Bytes::copy_of(
+            $payload,
+        )?))
     };
 }
 

@@ -2,7 +2,12 @@
 
 //! Data of ipvlan, ipvtap, macvlan, macvtap, vrf, ipoib, xfrm, macsec and rmnet links.
 
-use crate::layers::nla_frame::ExactEq;
+use crate::layers::data::ask::Ask;
+use crate::layers::data::calls::{ask, read};
+use crate::layers::data::info_data::InfoDataOf;
+use crate::layers::data::payload_family::PayloadFamily;
+use crate::layers::nla_frame::{DecodeError, ExactEq, HeaderCount};
+use crate::layers::table::LinkLayer;
 
 /// The families of data of ipvlan, ipvtap, macvlan, macvtap, vrf, ipoib, xfrm, macsec and rmnet
 /// links.
@@ -36,7 +41,7 @@ impl ExactEq for DeviceFamily {}
 
 /// Matches a family of devices, and expands `$call!`, of `calls`, for its data.
 macro_rules! of_device {
-    ($family:expr, $call:ident $given:tt) => {
+    ($layer:ty, $family:expr, $call:ident $given:tt) => {
         match $family {
             // Begin: written by tables/generate from tables/kinds (calls).
             DeviceFamily::IpVlan => {
@@ -69,6 +74,19 @@ macro_rules! of_device {
             // End: written by tables/generate.
         }
     };
+}
+
+impl<P: LinkLayer> PayloadFamily<P> for DeviceFamily {
+    type Data = InfoDataOf<P>;
+
+    fn read(self, payload: &[u8], count: &mut HeaderCount) -> Result<InfoDataOf<P>, DecodeError> {
+        of_device!(P, self, read(payload, count))
+    }
+
+    #[inline(always)]
+    fn ask<Q: Ask>(self, question: Q, count: &mut HeaderCount, buffer: &mut [u8]) -> Q::Answer {
+        of_device!(P, self, ask(question, count, buffer))
+    }
 }
 
 pub(crate) use of_device;

@@ -10,6 +10,7 @@ use crate::layers::data::devices::{DeviceFamily, of_device};
 use crate::layers::data::encode::Encode;
 use crate::layers::data::info_data::{InfoDataOf, encode_data};
 use crate::layers::data::lower::{LowerFamily, of_lower};
+use crate::layers::data::payload_family::PayloadFamily;
 use crate::layers::data::peers::{PeeredFamily, of_peered};
 use crate::layers::data::port_data::{InfoPortDataOf, PortFamily, encode_port_data, of_port};
 use crate::layers::data::tunnels::{TunnelFamily, of_tunnel};
@@ -133,10 +134,10 @@ impl<P: LinkPeer> DataLayer for P {
         count: &mut HeaderCount,
     ) -> Result<InfoDataOf<P>, DecodeError> {
         match family {
-            DataFamily::Lower(family) => Ok(of_lower!(family, read(payload, count))),
-            DataFamily::Device(family) => Ok(of_device!(family, read(payload, count))),
-            DataFamily::Tunnel(family) => Ok(of_tunnel!(family, read(payload, count))),
-            DataFamily::Peered(family) => Ok(of_peered!(family, read(payload, count))),
+            DataFamily::Lower(family) => of_lower!(P, family, read(payload, count)),
+            DataFamily::Device(family) => of_device!(P, family, read(payload, count)),
+            DataFamily::Tunnel(family) => of_tunnel!(P, family, read(payload, count)),
+            DataFamily::Peered(family) => of_peered!(P, family, read(payload, count)),
             DataFamily::Raw => Ok(InfoDataOf::Other(Bytes::copy_of(payload)?)),
         }
     }
@@ -149,10 +150,10 @@ impl<P: LinkPeer> DataLayer for P {
         buffer: &mut [u8],
     ) -> Q::Answer {
         match family {
-            DataFamily::Lower(family) => of_lower!(family, ask(question, count, buffer)),
-            DataFamily::Device(family) => of_device!(family, ask(question, count, buffer)),
-            DataFamily::Tunnel(family) => of_tunnel!(family, ask(question, count, buffer)),
-            DataFamily::Peered(family) => of_peered!(family, ask(question, count, buffer)),
+            DataFamily::Lower(family) => of_lower!(P, family, ask(question, count, buffer)),
+            DataFamily::Device(family) => of_device!(P, family, ask(question, count, buffer)),
+            DataFamily::Tunnel(family) => of_tunnel!(P, family, ask(question, count, buffer)),
+            DataFamily::Peered(family) => of_peered!(P, family, ask(question, count, buffer)),
             DataFamily::Raw => question.of_bytes(count, buffer),
         }
     }
@@ -166,7 +167,7 @@ impl<P: LinkPeer> DataLayer for P {
         payload: &[u8],
         count: &mut HeaderCount,
     ) -> Result<InfoPortDataOf<P>, DecodeError> {
-        Ok(of_port!(family, read(payload, count)))
+        of_port!(P, family, read(payload, count))
     }
 
     #[inline(always)]
@@ -176,7 +177,7 @@ impl<P: LinkPeer> DataLayer for P {
         count: &mut HeaderCount,
         buffer: &mut [u8],
     ) -> Q::Answer {
-        of_port!(family, ask(question, count, buffer))
+        of_port!(P, family, ask(question, count, buffer))
     }
 
     fn encode_port_data<E: Encode>(
@@ -240,10 +241,10 @@ where
         count: &mut HeaderCount,
     ) -> Result<InfoDataOf<Layered<L>>, DecodeError> {
         match family {
-            DataFamily::Lower(family) => Ok(of_lower!(family, read(payload, count))),
-            DataFamily::Device(family) => Ok(of_device!(family, read(payload, count))),
-            DataFamily::Tunnel(family) => Ok(of_tunnel!(family, read(payload, count))),
-            DataFamily::Peered(family) => Ok(of_peered!(family, read(payload, count))),
+            DataFamily::Lower(family) => of_lower!(Layered<L>, family, read(payload, count)),
+            DataFamily::Device(family) => family.read(payload, count),
+            DataFamily::Tunnel(family) => family.read(payload, count),
+            DataFamily::Peered(family) => family.read(payload, count),
             DataFamily::Raw => Ok(InfoDataOf::Other(Bytes::copy_of(payload)?)),
         }
     }
@@ -256,10 +257,18 @@ where
         buffer: &mut [u8],
     ) -> Q::Answer {
         match family {
-            DataFamily::Lower(family) => of_lower!(family, ask(question, count, buffer)),
-            DataFamily::Device(family) => of_device!(family, ask(question, count, buffer)),
-            DataFamily::Tunnel(family) => of_tunnel!(family, ask(question, count, buffer)),
-            DataFamily::Peered(family) => of_peered!(family, ask(question, count, buffer)),
+            DataFamily::Lower(family) => {
+                of_lower!(Layered<L>, family, ask(question, count, buffer))
+            }
+            DataFamily::Device(family) => {
+                PayloadFamily::<Layered<L>>::ask(family, question, count, buffer)
+            }
+            DataFamily::Tunnel(family) => {
+                PayloadFamily::<Layered<L>>::ask(family, question, count, buffer)
+            }
+            DataFamily::Peered(family) => {
+                PayloadFamily::<Layered<L>>::ask(family, question, count, buffer)
+            }
             DataFamily::Raw => question.of_bytes(count, buffer),
         }
     }
@@ -277,7 +286,7 @@ where
         payload: &[u8],
         count: &mut HeaderCount,
     ) -> Result<InfoPortDataOf<Layered<L>>, DecodeError> {
-        Ok(of_port!(family, read(payload, count)))
+        of_port!(Layered<L>, family, read(payload, count))
     }
 
     #[inline(always)]
@@ -287,7 +296,7 @@ where
         count: &mut HeaderCount,
         buffer: &mut [u8],
     ) -> Q::Answer {
-        of_port!(family, ask(question, count, buffer))
+        of_port!(Layered<L>, family, ask(question, count, buffer))
     }
 
     fn encode_port_data<E: Encode>(

@@ -2,7 +2,12 @@
 
 //! Data of veth, vxcan, netkit, wireguard, batadv, wwan and pfcp links.
 
-use crate::layers::nla_frame::ExactEq;
+use crate::layers::data::ask::Ask;
+use crate::layers::data::calls::{ask, read};
+use crate::layers::data::info_data::InfoDataOf;
+use crate::layers::data::payload_family::PayloadFamily;
+use crate::layers::nla_frame::{DecodeError, ExactEq, HeaderCount};
+use crate::layers::table::LinkLayer;
 
 /// The families of data of links with a peer (veth, vxcan and netkit), and of wireguard, batadv,
 /// wwan and pfcp links.
@@ -30,12 +35,12 @@ impl ExactEq for PeeredFamily {}
 
 /// Matches a family, and expands `$call!`, of `calls`, for its data.
 macro_rules! of_peered {
-    ($family:expr, $call:ident $given:tt) => {
+    ($layer:ty, $family:expr, $call:ident $given:tt) => {
         match $family {
             // Begin: written by tables/generate from tables/kinds (calls).
             PeeredFamily::Veth => $call!(first(
                 InfoDataOf::Veth,
-                crate::layers::peers::InfoVethOf<<Self as LinkLayer>::Peer>,
+                crate::layers::peers::InfoVethOf<<$layer as LinkLayer>::Peer>,
                 ()
             ) $given),
             PeeredFamily::Wireguard => {
@@ -43,12 +48,12 @@ macro_rules! of_peered {
             }
             PeeredFamily::Netkit => $call!(list(
                 InfoDataOf::Netkit,
-                crate::layers::peers::InfoNetkitOf<<Self as LinkLayer>::Peer>,
+                crate::layers::peers::InfoNetkitOf<<$layer as LinkLayer>::Peer>,
                 ()
             ) $given),
             PeeredFamily::Vxcan => $call!(first(
                 InfoDataOf::Vxcan,
-                crate::layers::peers::InfoVxcanOf<<Self as LinkLayer>::Peer>,
+                crate::layers::peers::InfoVxcanOf<<$layer as LinkLayer>::Peer>,
                 ()
             ) $given),
             PeeredFamily::BatAdv => {
@@ -63,6 +68,19 @@ macro_rules! of_peered {
             // End: written by tables/generate.
         }
     };
+}
+
+impl<P: LinkLayer> PayloadFamily<P> for PeeredFamily {
+    type Data = InfoDataOf<P>;
+
+    fn read(self, payload: &[u8], count: &mut HeaderCount) -> Result<InfoDataOf<P>, DecodeError> {
+        of_peered!(P, self, read(payload, count))
+    }
+
+    #[inline(always)]
+    fn ask<Q: Ask>(self, question: Q, count: &mut HeaderCount, buffer: &mut [u8]) -> Q::Answer {
+        of_peered!(P, self, ask(question, count, buffer))
+    }
 }
 
 pub(crate) use of_peered;

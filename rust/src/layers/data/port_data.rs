@@ -99,16 +99,16 @@ impl<P: LinkLayer + DataLayer<PortData = InfoPortDataOf<P>>> InfoPortDataOf<P> {
 /// Matches a family of ports, and expands `$call!`, of `calls`, for its data, as `of_lower!` does
 /// for data of links.
 macro_rules! of_port {
-    ($family:expr, $call:ident $given:tt) => {
+    ($layer:ty, $family:expr, $call:ident $given:tt) => {
         match $family {
             PortFamily::Bond => $call!(list(
                 InfoPortDataOf::BondPort,
-                <Self as LinkLayer>::BondPort,
+                <$layer as LinkLayer>::BondPort,
                 ()
             ) $given),
             PortFamily::Bridge => $call!(list(
                 InfoPortDataOf::BridgePort,
-                <Self as LinkLayer>::BridgePort,
+                <$layer as LinkLayer>::BridgePort,
                 ()
             ) $given),
             PortFamily::Vrf => $call!(list(InfoPortDataOf::VrfPort, InfoVrfPort, ()) $given),

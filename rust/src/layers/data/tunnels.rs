@@ -2,8 +2,13 @@
 
 //! Data of tunnels.
 
-use crate::layers::nla_frame::ExactEq;
+use crate::layers::data::ask::Ask;
+use crate::layers::data::calls::{ask, read};
+use crate::layers::data::info_data::InfoDataOf;
+use crate::layers::data::payload_family::PayloadFamily;
+use crate::layers::nla_frame::{DecodeError, ExactEq, HeaderCount};
 use crate::layers::numbers::KindTag;
+use crate::layers::table::LinkLayer;
 
 /// The families of data of tunnels.
 #[derive(Clone, Copy, Debug, PartialEq, Eq, Hash, PartialOrd, Ord)]
@@ -42,7 +47,7 @@ impl ExactEq for TunnelFamily {}
 
 /// Matches a family of tunnels, and expands `$call!`, of `calls`, for its data.
 macro_rules! of_tunnel {
-    ($family:expr, $call:ident $given:tt) => {
+    ($layer:ty, $family:expr, $call:ident $given:tt) => {
         match $family {
             // Begin: written by tables/generate from tables/kinds (calls).
             TunnelFamily::Vxlan => {
@@ -87,6 +92,19 @@ macro_rules! of_tunnel {
             // End: written by tables/generate.
         }
     };
+}
+
+impl<P: LinkLayer> PayloadFamily<P> for TunnelFamily {
+    type Data = InfoDataOf<P>;
+
+    fn read(self, payload: &[u8], count: &mut HeaderCount) -> Result<InfoDataOf<P>, DecodeError> {
+        of_tunnel!(P, self, read(payload, count))
+    }
+
+    #[inline(always)]
+    fn ask<Q: Ask>(self, question: Q, count: &mut HeaderCount, buffer: &mut [u8]) -> Q::Answer {
+        of_tunnel!(P, self, ask(question, count, buffer))
+    }
 }
 
 pub(crate) use of_tunnel;

@@ -66,10 +66,10 @@ impl<P: LinkPeer> DataLayer for Typed<P> {
         count: &mut HeaderCount,
     ) -> Result<InfoDataOf<Typed<P>>, DecodeError> {
         match family {
-            DataFamily::Lower(family) => Ok(of_lower!(family, read(payload, count))),
-            DataFamily::Device(family) => Ok(of_device!(family, read(payload, count))),
-            DataFamily::Tunnel(family) => Ok(of_tunnel!(family, read(payload, count))),
-            DataFamily::Peered(family) => Ok(of_peered!(family, read(payload, count))),
+            DataFamily::Lower(family) => of_lower!(Typed<P>, family, read(payload, count)),
+            DataFamily::Device(family) => of_device!(Typed<P>, family, read(payload, count)),
+            DataFamily::Tunnel(family) => of_tunnel!(Typed<P>, family, read(payload, count)),
+            DataFamily::Peered(family) => of_peered!(Typed<P>, family, read(payload, count)),
             DataFamily::Raw => Ok(InfoDataOf::Other(Bytes::copy_of(payload)?)),
         }
     }
@@ -82,10 +82,16 @@ impl<P: LinkPeer> DataLayer for Typed<P> {
         buffer: &mut [u8],
     ) -> Q::Answer {
         match family {
-            DataFamily::Lower(family) => of_lower!(family, ask(question, count, buffer)),
-            DataFamily::Device(family) => of_device!(family, ask(question, count, buffer)),
-            DataFamily::Tunnel(family) => of_tunnel!(family, ask(question, count, buffer)),
-            DataFamily::Peered(family) => of_peered!(family, ask(question, count, buffer)),
+            DataFamily::Lower(family) => of_lower!(Typed<P>, family, ask(question, count, buffer)),
+            DataFamily::Device(family) => {
+                of_device!(Typed<P>, family, ask(question, count, buffer))
+            }
+            DataFamily::Tunnel(family) => {
+                of_tunnel!(Typed<P>, family, ask(question, count, buffer))
+            }
+            DataFamily::Peered(family) => {
+                of_peered!(Typed<P>, family, ask(question, count, buffer))
+            }
             DataFamily::Raw => question.of_bytes(count, buffer),
         }
     }
@@ -103,7 +109,7 @@ impl<P: LinkPeer> DataLayer for Typed<P> {
         payload: &[u8],
         count: &mut HeaderCount,
     ) -> Result<InfoPortDataOf<Typed<P>>, DecodeError> {
-        Ok(of_port!(family, read(payload, count)))
+        of_port!(Typed<P>, family, read(payload, count))
     }
 
     #[inline(always)]
@@ -113,7 +119,7 @@ impl<P: LinkPeer> DataLayer for Typed<P> {
         count: &mut HeaderCount,
         buffer: &mut [u8],
     ) -> Q::Answer {
-        of_port!(family, ask(question, count, buffer))
+        of_port!(Typed<P>, family, ask(question, count, buffer))
     }
 
     fn encode_port_data<E: Encode>(
