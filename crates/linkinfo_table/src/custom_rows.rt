@@ -365,6 +365,7 @@ impl<F: RowFamily> CustomRows<F> for () {
         whole_difference(F::FAMILY, is_same, a, b)
     }
 
+    #[inline]
     fn unmet(have: &PlacedNla<'_>, want: &PlacedNla<'_>, ctx: F::Context) -> Option<Unmet> {
         let is_met = have.nla.value() == want.nla.value()
             || row_same::<F>(&have.nla, &want.nla, ctx);

@@ -50,7 +50,8 @@ pub struct Unmet {
     /// The offset of the attribute in the request.
     pub want: usize,
     /// The offset of the last attribute of that type in the other bytes, or `None` where there is
-    /// none.
+    /// none. `None` in a list that is a set also where others of that type are: none of them meets
+    /// it.
     pub have: Option<usize>,
 }
 
@@ -266,6 +267,7 @@ fn unmet_from<F: LinkFamily>(
 }
 
 /// What of an attribute the one of its type that was found, if one was, does not meet.
+#[inline]
 fn found_unmet<F: LinkFamily>(
     have: &Option<PlacedNla<'_>>,
     want: &PlacedNla<'_>,

@@ -98,6 +98,7 @@ impl<F: TableFamily> LinkFamily for F {
         <F as TableFamily>::Custom::difference(a, b, ctx)
     }
 
+    #[inline]
     fn unmet(
         have: &PlacedNla<'_>,
         want: &PlacedNla<'_>,
