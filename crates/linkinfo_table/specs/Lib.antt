@@ -1,4 +1,5 @@
 pub mod ByRows
+pub mod BothRows
 pub mod BytesPeer
 pub mod Calls
 pub mod Canonical

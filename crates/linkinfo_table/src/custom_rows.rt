@@ -99,6 +99,14 @@ pub trait CustomRows<F: RowFamily> {
     /// What attributes of each type without flag bits contain.
     ghost contents: { ℕ → Contents };
 
+    /// Whether the list has a row of this type, which is one without flag bits.
+    fn owns(kind: u16) -> bool
+        ensures { result ≡ owned kind };
+
+    /// Whether a value contains a payload of one of the rows.
+    fn holds(value: &F) -> bool
+        ensures { result ≡ held value.now };
+
     /// Reads an attribute.
     ///
     /// An attribute that is rejected by itself has an error with its family and type. One in which
@@ -286,6 +294,16 @@ impl<F: RowFamily> CustomRows<F> for () {
     ghost quarter = { none_inside };
 
     #[inline(always)]
+    fn owns(_kind: u16) -> bool {
+        false
+    }
+
+    #[inline(always)]
+    fn holds(_value: &F) -> bool {
+        false
+    }
+
+    #[inline(always)]
     fn read(
         alloc: Global,
         nla: &NlaBuffer<'_>,
@@ -396,6 +414,16 @@ impl<F: RowFamily, R: PayloadRow<F>, Rest: CustomRows<F>> CustomRows<F> for (R, 
     ghost quarter = { λ a.
         either_quarter R.NUMBER R.Payload.headers Rest.headers
         (λ p. R.Payload.LinkPayload.lawful.codec.quarter p) Rest.quarter a };
+
+    #[inline(always)]
+    fn owns(kind: u16) -> bool {
+        kind == R::NUMBER || Rest::owns(kind)
+    }
+
+    #[inline(always)]
+    fn holds(value: &F) -> bool {
+        R::payload(value).is_some() || Rest::holds(value)
+    }
 
     #[inline(always)]
     fn read(

@@ -1,6 +1,7 @@
 //! Families of link info attributes: rows, lists and peers.
 #![tactic(auto)]
 
+mod both_rows;
 mod by_rows;
 mod canonical;
 mod custom_rows;
@@ -33,6 +34,7 @@ mod slot;
 mod table_family;
 mod unmet;
 
+pub use both_rows::Both;
 pub use canonical::{row_canonical_len, row_write_canonical};
 pub use custom_rows::CustomRows;
 pub use decoded::Decoded;

@@ -44,6 +44,7 @@ pub trait PayloadRow<F: RowFamily> {
               kind = written_kind NESTED NUMBER;
               value = Self.Payload.canon payload.now;
             }) }
+        ensures held { IfSome result (λ _. is_held value.now ≡ true) }
         ensures none { IsNone result → is_held value.now ≡ false };
 
     ghost row_is: { (c : F.Context) →
