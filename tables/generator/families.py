@@ -12,11 +12,10 @@ LISTS = (NEST, "V4List", "V6List")      # the layouts that can be written with N
 COLUMNS = ["type", "name", "variant", "layout", "member", "shown as"]
 KEYS = ["family", "links", "names", "twin", "tables", "header", "about", "note", "alias", "rows"]
 INNER = ("inner ", "inner set ")    # the families of lists inside others, and those that are sets
-SHAPED = "shaped "                   # a family of which the typed layer has the shapes alone
-LAYERED = ("typed ", SHAPED, *INNER)    # the families of the typed layer, and those inside them
+LAYERED = ("typed ", *INNER)        # the families of the typed layer, and those inside them
 FAMILY = re.compile(
     r"(\w+)(?: and (\w+))?"
-    r"(?:, (by hand |typed |shaped |inner |inner set )?in (\w+)(?:::(\w+)(?: and (\w+))?)?)?")
+    r"(?:, (by hand |typed |inner |inner set )?in (\w+)(?:::(\w+)(?: and (\w+))?)?)?")
 
 
 # What follows from the layout of a payload, a `Shape`: the type of the variant's field, if it has
@@ -98,8 +97,7 @@ class Family:
                 raise table.head[key].bad(f"{head[key]} is no {key}: see tables/README.md")
         self.name, self.twin, how, self.crate, module, other = where.groups()
         self.table, self.title = name, table.title
-        self.flat = bool(self.crate) and how not in ("by hand ", SHAPED)
-        self.layered, self.shaped = how in LAYERED, how == SHAPED
+        self.flat, self.layered = bool(self.crate) and how != "by hand ", how in LAYERED
         self.inner, self.is_set = how in INNER, how == "inner set "
         self.families = [self.name, *[self.twin] * bool(self.twin)]
         self.type, self.snake = "Info" * (not self.inner) + self.name, snake(self.name)

@@ -72,5 +72,4 @@ def outputs(tables):
     for crate in sorted({family.crate for family in flat}):
         yield from crate_parts(crate, [family for family in flat if family.crate == crate])
     for family in tables.families:
-        is_by_hand = family.crate and not family.flat and not family.shaped
-        yield from by_hand(family) if is_by_hand else ()
+        yield from by_hand(family) if family.crate and not family.flat else ()

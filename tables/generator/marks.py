@@ -2,8 +2,9 @@
 import re
 
 from .families import NEST
-from .text import CALL, MOST, broken, fill, pairs, snake, spelled
+from .text import CALL, MOST, broken, fill, laid, pairs, snake, spelled
 
+LISTED = 2      # up to so many rows of payloads are a list; more are a tree of such lists
 SEARCHED = 10   # up to so many variants, `ExactEq` is found by a search
 LONG = 8        # from so many rows on, what a label keeps is a line for each row
 KNOWN = {"number": "Decides-eqb", "truth": "booleans_Decides",
@@ -166,6 +167,39 @@ def listed_types(rows):
     return ("", f"{rows[0]['variant']}Row<()>"), listed_types(rows[1:])
 
 
+def halves(rows):
+    """The rows of the first and of the second half of a tree of rows, or None if a list has them
+    all."""
+    return (rows[:len(rows) // 2], rows[len(rows) // 2:]) if len(rows) > LISTED else None
+
+
+def types_tree(rows, indent):
+    """The types of rows as a tree of lists."""
+    if not halves(rows):
+        return laid(listed_types(rows))
+    parts = [types_tree(half, indent + " " * 4) for half in halves(rows)]
+    line = f"Both<{', '.join(parts)}>"
+    if "\n" not in line and len(indent) + len(line) < MOST:
+        return line
+    return f"Both<\n{''.join(f'{indent}    {part},{chr(10)}' for part in parts)}{indent}>"
+
+
+def any_of(rows, of_list):
+    """Whether one of the lists of a tree of rows has something."""
+    if not halves(rows):
+        return of_list(rows)
+    return "({} ||\n    {})".format(*(any_of(half, of_list) for half in halves(rows)))
+
+
+def of_none(rows):
+    """That a type of which no list of a tree of rows has a row is not among the types of all."""
+    if not halves(rows):
+        return "(λ h. h)"
+    first, second = (cons(row["number"] for row in half) for half in halves(rows))
+    return "(of_none ({}) ({}) n\n    {}\n    {})".format(
+        first, second, *map(of_none, halves(rows)))
+
+
 def cons(items, last="[]"):
     """A list in specs, in lines that begin with four spaces but for the first."""
     return fill([*(f"{item} ∷" for item in items), last], "    ", MOST - len(") n (")).strip()
@@ -226,11 +260,13 @@ def custom(family, inner):
         "suits": f"({its}_suits c.args.decoded c.requires)" if inner else "c.requires",
         "own_variants": "".join(f"{row['variant']}, " for row in inner),
         "held": ", ".join(f"is_{row['either']}" for row in inner),
-        "custom": broken(listed_types(inner), " " * 4, " " * 4, MOST - len("type Custom = ;"),
-                         CALL),
+        "custom": types_tree(inner, " " * 4), "tree_import": "Both, " * bool(halves(inner)),
         "owned": owned(inner), "suffixes": ", ".join(suffixes), "chain": chain(family, inner),
         "first_rows": suffixes[0] if inner else "",
-        "is_held": f"is_held ({cons('is_' + row['either'] for row in inner)}) x",
+        "is_held": any_of(inner, lambda rows:
+                          f"is_held ({cons('is_' + row['either'] for row in rows)}) x"),
+        "tree": bool(halves(inner)), "owned_tree": any_of(inner, owned),
+        "of_none": of_none(inner), "of_tree": "_elsewhere" * bool(halves(inner)),
         "beside": beside(inner, f"{its}_plain" if inner else f"{its}_rows", " " * 4),
         "inner_rows": "".join(f"use {spec}.{name}.{{{it}_attribute, {it}_lawful, {it}_members}}\n"
                               for it, name in inside),

@@ -29,6 +29,7 @@ mod rmnet;
 mod rows;
 mod table;
 mod typed_bond;
+mod typed_can;
 mod typed_vlan;
 mod vlan;
 mod vti;

@@ -21,9 +21,9 @@ use std::marker::PhantomData;
 
 /// The rows of `A` and those of `B`.
 ///
-/// It stands for a longer list of rows: what is proved of a family with rows of types of their own
-/// is as deep as this tree, where a list of pairs is as deep as it is long. A type of which both
-/// have a row is one of `A`.
+/// A family with more than two such rows has them as a tree of `Both`, which is less deep than a
+/// list of pairs, so that the compiler has less to do. A type of which both have a row is one of
+/// `A`.
 pub struct Both<A, B> {
     rows: PhantomData<(A, B)>,
 }

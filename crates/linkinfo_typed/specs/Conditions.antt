@@ -2,6 +2,7 @@
 -- a number, a list or an opaque attribute.
 -- Begin: written by tables/generate from tables/families.
 pub use Rattle.linkinfo_typed.specs.BondConditions.{bond_conditions, bond_stated}
+pub use Rattle.linkinfo_typed.specs.CanConditions.{can_conditions, can_stated}
 pub use Rattle.linkinfo_typed.specs.QosConditions.{
   vlan_qos_mapping_conditions,
   vlan_qos_mapping_stated,

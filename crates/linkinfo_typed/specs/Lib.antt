@@ -1,6 +1,8 @@
 -- Begin: written by tables/generate from tables/families.
 pub mod Bond
 pub mod BondConditions
+pub mod Can
+pub mod CanConditions
 pub mod Qos
 pub mod QosConditions
 pub mod Vlan

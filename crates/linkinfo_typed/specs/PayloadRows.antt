@@ -13,6 +13,8 @@ use Rattle.std.specs.Prelude.{
   List,
   [],
   ◌∷◌,
+  ◌++◌,
+  refl,
 }
 use Rattle.std.proofs.Common.{ap, subst, sym, ◌∙◌}
 use Rattle.nla_frame.specs.Attribute.{Attribute, masked}
@@ -42,6 +44,24 @@ use Rattle.linkinfo_table.specs.declared.decoded.Decoded.TheVariants as decoded
 abbrev pub is_among : List ℕ → ℕ → Bool
 is_among [] n = false
 is_among (k ∷ ks) n = (n == k) || is_among ks n
+
+-- a type that is among neither of two lists is not among both together
+pub of_none : (xs ys : List ℕ) (n : ℕ) {p q : Bool} → (p ≡ false → is_among xs n ≡ false) →
+    (q ≡ false → is_among ys n ≡ false) → (p || q) ≡ false → is_among (xs ++ ys) n ≡ false
+of_none xs ys n {p} {q} here there h = go p q here there h
+  where
+    beside : (ks : List ℕ) → is_among ks n ≡ false → is_among ys n ≡ false →
+        is_among (ks ++ ys) n ≡ false
+    beside [] k l = l
+    beside (k ∷ ks) first l = after (n == k) first
+      where
+        after : (b : Bool) → (b || is_among ks n) ≡ false → (b || is_among (ks ++ ys) n) ≡ false
+        after true e = e
+        after false e = beside ks e l
+    go : (p q : Bool) → (p ≡ false → is_among xs n ≡ false) →
+        (q ≡ false → is_among ys n ≡ false) → (p || q) ≡ false → is_among (xs ++ ys) n ≡ false
+    go true q here there h = absurd cc
+    go false q here there h = beside xs (here refl) (there h)
 
 -- whether a value contains one of these payloads
 abbrev pub is_held : {X : Type 0} → List (X → Bool) → X → Bool

@@ -4,12 +4,21 @@ ghost use Rattle.std.specs.Prelude.{◌≡◌, ◌↔◌, ℕ, false, true, [], 
 // Begin: written by tables/generate from tables/families (conditions).
 ghost use Rattle.linkinfo_typed.specs.Conditions.{
   bond_conditions,
+  can_conditions,
   vlan_conditions,
   vlan_qos_mapping_conditions,
 };
 // End: written by tables/generate.
 // Begin: written by tables/generate from tables/families (codecs).
-ghost use Rattle.linkinfo_payloads.specs.Payloads.{v4_list_codec, v6_list_codec};
+ghost use Rattle.linkinfo_payloads.specs.Payloads.{
+  can_berr_counter_codec,
+  can_bit_timing_codec,
+  can_bit_timing_const_codec,
+  le16s_codec,
+  le32s_codec,
+  v4_list_codec,
+  v6_list_codec,
+};
 // End: written by tables/generate.
 ghost use Rattle.linkinfo_shapes.specs.Typed.{typed_shape_of};
 ghost use Rattle.linkinfo_table.specs.FamilyRows.{lookup_in};
@@ -17,12 +26,14 @@ ghost use Rattle.linkinfo_typed.specs.NestedLists.{HoldsListOf};
 ghost use Rattle.linkinfo_typed.specs.PayloadRows.{HoldsPayload};
 // Begin: written by tables/generate from tables/families (variants).
 ghost use Rattle.linkinfo_typed.specs.declared.bond.InfoBond.TheVariants as bond;
+ghost use Rattle.linkinfo_typed.specs.declared.can.InfoCan.TheVariants as can;
 ghost use Rattle.linkinfo_typed.specs.declared.vlan.InfoVlan.TheVariants as vlan;
 // End: written by tables/generate.
 ghost use Rattle.nla_frame.specs.declared.error.Family.TheVariants as family;
 
 // Begin: written by tables/generate from tables/families (types).
 use crate::bond::InfoBond;
+use crate::can::InfoCan;
 use crate::qos::VlanQosMapping;
 use crate::vlan::InfoVlan;
 // End: written by tables/generate.
@@ -34,6 +45,7 @@ use linkinfo_table::{LinkFamily, ListedFamily};
 pub fn named()
     // Begin: written by tables/generate from tables/families (named).
     ensures bond { ⟦<InfoBond as LinkFamily>⟧.FAMILY ≡ family.Bond }
+    ensures can { ⟦<InfoCan as LinkFamily>⟧.FAMILY ≡ family.Can }
     ensures vlan_qos_mapping { ⟦<VlanQosMapping as LinkFamily>⟧.FAMILY ≡ family.VlanQosMapping }
     ensures vlan { ⟦<InfoVlan as LinkFamily>⟧.FAMILY ≡ family.Vlan }
 // End: written by tables/generate.
@@ -45,6 +57,8 @@ pub fn tabled()
     // Begin: written by tables/generate from tables/families (tabled).
     ensures bond { (n : ℕ) →
         ⟦<InfoBond as LinkFamily>⟧.lookup tt n ≡ lookup_in (typed_shape_of family.Bond n) }
+    ensures can { (n : ℕ) →
+        ⟦<InfoCan as LinkFamily>⟧.lookup tt n ≡ lookup_in (typed_shape_of family.Can n) }
     ensures vlan_qos_mapping { (n : ℕ) →
         ⟦<VlanQosMapping as LinkFamily>⟧.lookup tt n
         ≡ lookup_in (typed_shape_of family.VlanQosMapping n) }
@@ -59,6 +73,7 @@ pub fn tabled()
 pub fn well_formed()
     // Begin: written by tables/generate from tables/families (well_formed).
     ensures bond { (x : InfoBond) → ⟦<InfoBond as LinkFamily>⟧.well tt x ↔ bond_conditions x }
+    ensures can { (x : InfoCan) → ⟦<InfoCan as LinkFamily>⟧.well tt x ↔ can_conditions x }
     ensures vlan_qos_mapping { (x : VlanQosMapping) →
         ⟦<VlanQosMapping as LinkFamily>⟧.well tt x ↔ vlan_qos_mapping_conditions x }
     ensures vlan { (x : InfoVlan) → ⟦<InfoVlan as LinkFamily>⟧.well tt x ↔ vlan_conditions x }
@@ -70,6 +85,7 @@ pub fn well_formed()
 pub fn families_inside()
     // Begin: written by tables/generate from tables/families (inside).
     ensures bond { ⟦<InfoBond as LinkFamily>⟧.inside ≡ [] }
+    ensures can { ⟦<InfoCan as LinkFamily>⟧.inside ≡ [] }
     ensures vlan_qos_mapping { ⟦<VlanQosMapping as LinkFamily>⟧.inside ≡ [] }
     ensures vlan { ⟦<InfoVlan as LinkFamily>⟧.inside
         ≡ family.VlanQosMapping ∷ family.VlanQosMapping ∷ [] }
@@ -81,6 +97,7 @@ pub fn families_inside()
 pub fn sets()
     // Begin: written by tables/generate from tables/families (sets).
     ensures bond { ⟦<InfoBond as LinkFamily>⟧.IS_SET ≡ false }
+    ensures can { ⟦<InfoCan as LinkFamily>⟧.IS_SET ≡ false }
     ensures vlan_qos_mapping { ⟦<VlanQosMapping as LinkFamily>⟧.IS_SET ≡ true }
     ensures vlan { ⟦<InfoVlan as LinkFamily>⟧.IS_SET ≡ false }
 // End: written by tables/generate.
@@ -107,5 +124,25 @@ pub fn payloads_inside()
         v4_list_codec 8 8 (λ x. bond.ArpIpTarget x) }
     ensures bond_ns_ip6_target { HoldsPayload (⟦<InfoBond as ListedFamily>⟧.members tt)
         v6_list_codec 31 32799 (λ x. bond.NsIp6Target x) }
+    ensures can_bit_timing { HoldsPayload (⟦<InfoCan as ListedFamily>⟧.members tt)
+        can_bit_timing_codec 1 1 (λ x. can.BitTiming x) }
+    ensures can_bit_timing_const { HoldsPayload (⟦<InfoCan as ListedFamily>⟧.members tt)
+        can_bit_timing_const_codec 2 2 (λ x. can.BitTimingConst x) }
+    ensures can_berr_counter { HoldsPayload (⟦<InfoCan as ListedFamily>⟧.members tt)
+        can_berr_counter_codec 8 8 (λ x. can.BerrCounter x) }
+    ensures can_data_bit_timing { HoldsPayload (⟦<InfoCan as ListedFamily>⟧.members tt)
+        can_bit_timing_codec 9 9 (λ x. can.DataBitTiming x) }
+    ensures can_data_bit_timing_const { HoldsPayload (⟦<InfoCan as ListedFamily>⟧.members tt)
+        can_bit_timing_const_codec 10 10 (λ x. can.DataBitTimingConst x) }
+    ensures can_termination_const { HoldsPayload (⟦<InfoCan as ListedFamily>⟧.members tt)
+        le16s_codec 12 12 (λ x. can.TerminationConst x) }
+    ensures can_bit_rate_const { HoldsPayload (⟦<InfoCan as ListedFamily>⟧.members tt)
+        le32s_codec 13 13 (λ x. can.BitRateConst x) }
+    ensures can_data_bit_rate_const { HoldsPayload (⟦<InfoCan as ListedFamily>⟧.members tt)
+        le32s_codec 14 14 (λ x. can.DataBitRateConst x) }
+    ensures can_xl_data_bit_timing { HoldsPayload (⟦<InfoCan as ListedFamily>⟧.members tt)
+        can_bit_timing_codec 18 18 (λ x. can.XlDataBitTiming x) }
+    ensures can_xl_data_bit_rate_const { HoldsPayload (⟦<InfoCan as ListedFamily>⟧.members tt)
+        le32s_codec 20 20 (λ x. can.XlDataBitRateConst x) }
 // End: written by tables/generate.
 {}

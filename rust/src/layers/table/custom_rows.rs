@@ -28,6 +28,12 @@ use alloc::vec::Vec;
 /// of shapes. They require that a type without a row of the list has no payload that the family
 /// reads itself. The calls on a value require the same of what it contains.
 pub trait CustomRows<F: RowFamily> {
+    /// Whether the list has a row of this type, which is one without flag bits.
+    fn owns(kind: u16) -> bool;
+
+    /// Whether a value contains a payload of one of the rows.
+    fn holds(value: &F) -> bool;
+
     /// Reads an attribute.
     ///
     /// An attribute that is rejected by itself has an error with its family and type. One in which
@@ -175,6 +181,16 @@ pub trait CustomRows<F: RowFamily> {
 
 impl<F: RowFamily> CustomRows<F> for () {
     #[inline(always)]
+    fn owns(_kind: u16) -> bool {
+        false
+    }
+
+    #[inline(always)]
+    fn holds(_value: &F) -> bool {
+        false
+    }
+
+    #[inline(always)]
     fn read(
         nla: &NlaBuffer<'_>,
         ctx: F::Context,
@@ -255,6 +271,16 @@ impl<F: RowFamily> CustomRows<F> for () {
 }
 
 impl<F: RowFamily, R: PayloadRow<F>, Rest: CustomRows<F>> CustomRows<F> for (R, Rest) {
+    #[inline(always)]
+    fn owns(kind: u16) -> bool {
+        kind == R::NUMBER || Rest::owns(kind)
+    }
+
+    #[inline(always)]
+    fn holds(value: &F) -> bool {
+        R::payload(value).is_some() || Rest::holds(value)
+    }
+
     #[inline(always)]
     fn read(
         nla: &NlaBuffer<'_>,

@@ -2,6 +2,7 @@
 
 //! Families of link info attributes: rows, lists and peers.
 
+mod both_rows;
 mod by_rows;
 mod canonical;
 mod custom_rows;
@@ -35,6 +36,7 @@ pub use crate::layers::shapes::{
     Datum, Shape, datum_len, read_datum, shape_canonical_len, shape_check, shape_same,
     shape_write_attribute, shape_write_canonical, table_shape, typed_shape, write_datum,
 };
+pub use both_rows::Both;
 pub use canonical::{row_canonical_len, row_write_canonical};
 pub use custom_rows::CustomRows;
 pub use decoded::Decoded;

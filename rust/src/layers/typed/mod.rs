@@ -5,12 +5,14 @@
 
 // Begin: written by tables/generate from tables/families (modules).
 mod bond;
+mod can;
 mod qos;
 mod vlan;
 // End: written by tables/generate.
 
 // Begin: written by tables/generate from tables/families (types).
 pub use bond::InfoBond;
+pub use can::InfoCan;
 pub use qos::VlanQosMapping;
 pub use vlan::InfoVlan;
 // End: written by tables/generate.

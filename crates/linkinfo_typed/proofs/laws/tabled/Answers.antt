@@ -2,6 +2,7 @@ use Rattle.linkinfo_table.specs.FamilyRowLaws.{table_lookup}
 use Rattle.linkinfo_typed.proofs.laws.tabled.Goals as goal
 -- Begin: written by tables/generate from tables/families (imports).
 use Rattle.linkinfo_typed.specs.Bond.{bond_lookup}
+use Rattle.linkinfo_typed.specs.Can.{can_lookup}
 use Rattle.linkinfo_typed.specs.Qos.{vlan_qos_mapping_rows}
 use Rattle.linkinfo_typed.specs.Vlan.{vlan_lookup}
 
@@ -10,6 +11,9 @@ use Rattle.linkinfo_typed.specs.Vlan.{vlan_lookup}
 -- Begin: written by tables/generate from tables/families (clauses).
 pub returns-clause-bond : goal.returns-clause-bond
 returns-clause-bond c = λ n. bond_lookup n
+
+pub returns-clause-can : goal.returns-clause-can
+returns-clause-can c = λ n. can_lookup n
 
 pub returns-clause-vlan_qos_mapping : goal.returns-clause-vlan_qos_mapping
 returns-clause-vlan_qos_mapping c = λ n. table_lookup vlan_qos_mapping_rows n

@@ -1,12 +1,20 @@
 use Rattle.linkinfo_typed.proofs.laws.well_formed.Goals as goal
 -- Begin: written by tables/generate from tables/families (imports).
-use Rattle.linkinfo_typed.specs.Conditions.{bond_stated, vlan_qos_mapping_stated, vlan_stated}
+use Rattle.linkinfo_typed.specs.Conditions.{
+  bond_stated,
+  can_stated,
+  vlan_qos_mapping_stated,
+  vlan_stated,
+}
 
 -- End: written by tables/generate.
 
 -- Begin: written by tables/generate from tables/families (clauses).
 pub returns-clause-bond : goal.returns-clause-bond
 returns-clause-bond c = bond_stated
+
+pub returns-clause-can : goal.returns-clause-can
+returns-clause-can c = can_stated
 
 pub returns-clause-vlan_qos_mapping : goal.returns-clause-vlan_qos_mapping
 returns-clause-vlan_qos_mapping c = vlan_qos_mapping_stated
