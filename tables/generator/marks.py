@@ -191,12 +191,22 @@ def any_of(rows, of_list):
     return "({} ||\n    {})".format(*(any_of(half, of_list) for half in halves(rows)))
 
 
+def headers_inside(rows):
+    """The headers in a payload `p` of the type `n`, by a tree of rows."""
+    if not halves(rows):
+        return "".join(f"if n == {row['number']} then {row['headers']} p else\n    "
+                       for row in rows) + "0"
+    first, second = halves(rows)
+    return (f"if {any_of(first, owned)} then (\n    {headers_inside(first)}) else (\n"
+            f"    {headers_inside(second)})")
+
+
 def of_none(rows):
     """That a type of which no list of a tree of rows has a row is not among the types of all."""
     if not halves(rows):
         return "(λ h. h)"
     first, second = (cons(row["number"] for row in half) for half in halves(rows))
-    return "(of_none ({}) ({}) n\n    {}\n    {})".format(
+    return "(of_none ({}) ({}) n\n    {} {})".format(
         first, second, *map(of_none, halves(rows)))
 
 
@@ -265,7 +275,8 @@ def custom(family, inner):
         "first_rows": suffixes[0] if inner else "",
         "is_held": any_of(inner, lambda rows:
                           f"is_held ({cons('is_' + row['either'] for row in rows)}) x"),
-        "tree": bool(halves(inner)), "owned_tree": any_of(inner, owned),
+        "headers_inside": headers_inside(inner), "tree": bool(halves(inner)),
+        "owned_tree": any_of(inner, owned),
         "of_none": of_none(inner), "of_tree": "_elsewhere" * bool(halves(inner)),
         "beside": beside(inner, f"{its}_plain" if inner else f"{its}_rows", " " * 4),
         "inner_rows": "".join(f"use {spec}.{name}.{{{it}_attribute, {it}_lawful, {it}_members}}\n"

@@ -67,9 +67,13 @@ def tidy(text):
     code = IMPORT.sub("", re.sub(r"(?m)(//|^--).*", "", text))
     words = {*re.findall(r"[^\s(),;]+", code), *re.findall(r"(?<![\w.])\w+", code)}
 
+    def is_used(name):
+        # (of an operator between places for arguments, its first part)
+        first = name.split("◌")[name[0] == "◌"]
+        return first in words or f"::{name.removesuffix('Rows')}::" in code
+
     def kept(mark):
-        names = [name for name in re.findall(r"[^\s,]+", mark[3])
-                 if name.strip("◌") in words or f"::{name.removesuffix('Rows')}::" in code]
+        names = [name for name in re.findall(r"[^\s,]+", mark[3]) if is_used(name)]
         return f"{imports(mark[1], mark[2], names, mark[4])}\n" if names else ""
 
     return IMPORT.sub(kept, text)

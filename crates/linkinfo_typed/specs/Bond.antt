@@ -1,6 +1,6 @@
 -- Written by tables/generate from tables/bond.
 -- The rows of `bond` links.
-use Rattle.std.specs.Prelude.{◌≡◌, ℕ, Bool, true, false, List, [], ◌∷◌, refl}
+use Rattle.std.specs.Prelude.{◌≡◌, ◌==◌, ℕ, Bool, if◌then◌else◌, true, false, List, [], ◌∷◌, refl}
 use Rattle.std.proofs.Common.{lit<}
 use Rattle.nla_frame.specs.Attribute.{Attribute}
 use Rattle.nla_frame.specs.Kept.{attribute_of}
@@ -215,6 +215,13 @@ bond_flat n h =
     with_flat 31 V6List true v6_list_codec (λ x. NsIp6Target x) (table_row bond_plain)
     false n e (λ _.
     table_flat bond_attribute bond_plain bond_keeps n))
+
+-- the headers in a payload of each type
+abbrev pub bond_headers : ℕ → List ℕ → ℕ
+bond_headers n p =
+    if n == 8 then v4_list_codec.headers p else
+    if n == 31 then v6_list_codec.headers p else
+    0
 
 -- the table of the typed layer has the same rows
 pub bond_lookup : (n : ℕ) → lookup_of (bond_rows n) ≡ lookup_in (typed_shape_of family.Bond n)

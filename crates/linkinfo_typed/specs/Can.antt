@@ -1,6 +1,19 @@
 -- Written by tables/generate from tables/can.
 -- The rows of `can` links.
-use Rattle.std.specs.Prelude.{◌≡◌, ◌||◌, ℕ, Bool, true, false, List, [], ◌∷◌, refl}
+use Rattle.std.specs.Prelude.{
+  ◌≡◌,
+  ◌==◌,
+  ◌||◌,
+  ℕ,
+  Bool,
+  if◌then◌else◌,
+  true,
+  false,
+  List,
+  [],
+  ◌∷◌,
+  refl,
+}
 use Rattle.std.proofs.Common.{lit<}
 use Rattle.nla_frame.specs.Attribute.{Attribute}
 use Rattle.nla_frame.specs.Kept.{attribute_of}
@@ -24,7 +37,7 @@ use Rattle.linkinfo_table.specs.FamilyRows.{
 }
 use Rattle.linkinfo_table.specs.TypedRows.{with_flat, with_lookup, with_owes, with_row}
 use Rattle.linkinfo_table.specs.declared.decoded.Decoded.{Decoded}
-use Rattle.linkinfo_typed.specs.PayloadRows.{is_among, is_held, with_suits}
+use Rattle.linkinfo_typed.specs.PayloadRows.{is_among, is_held, of_none, with_suits}
 use Rattle.linkinfo_shapes.specs.Typed.{typed_shape_of}
 use Rattle.linkinfo_shapes.specs.declared.shape.Shape.TheVariants.{
   Le32x8,
@@ -231,23 +244,46 @@ can_flat n h =
     false n e (λ _.
     table_flat can_attribute can_plain can_keeps n))))))))))
 
+-- the headers in a payload of each type
+abbrev pub can_headers : ℕ → List ℕ → ℕ
+can_headers n p =
+    if (is_among (1 ∷ 2 ∷ []) n ||
+    (is_among (8 ∷ []) n ||
+    is_among (9 ∷ 10 ∷ []) n)) then (
+    if is_among (1 ∷ 2 ∷ []) n then (
+    if n == 1 then can_bit_timing_codec.headers p else
+    if n == 2 then can_bit_timing_const_codec.headers p else
+    0) else (
+    if is_among (8 ∷ []) n then (
+    if n == 8 then can_berr_counter_codec.headers p else
+    0) else (
+    if n == 9 then can_bit_timing_codec.headers p else
+    if n == 10 then can_bit_timing_const_codec.headers p else
+    0))) else (
+    if is_among (12 ∷ 13 ∷ []) n then (
+    if n == 12 then le16s_codec.headers p else
+    if n == 13 then le32s_codec.headers p else
+    0) else (
+    if is_among (14 ∷ []) n then (
+    if n == 14 then le32s_codec.headers p else
+    0) else (
+    if n == 18 then can_bit_timing_codec.headers p else
+    if n == 20 then le32s_codec.headers p else
+    0)))
+
 pub can_flat_elsewhere : (n : ℕ) → ((is_among (1 ∷ 2 ∷ []) n ||
     (is_among (8 ∷ []) n ||
     is_among (9 ∷ 10 ∷ []) n)) ||
     (is_among (12 ∷ 13 ∷ []) n ||
     (is_among (14 ∷ []) n ||
     is_among (18 ∷ 20 ∷ []) n))) ≡ false → IsFlat (can_rows n)
-can_flat_elsewhere n h = can_flat n ((of_none (1 ∷ 2 ∷ 8 ∷ 9 ∷ 10 ∷ []) (12 ∷ 13 ∷ 14 ∷ 18 ∷ 20 ∷ []) n
+can_flat_elsewhere n h =
+    can_flat n ((of_none (1 ∷ 2 ∷ 8 ∷ 9 ∷ 10 ∷ []) (12 ∷ 13 ∷ 14 ∷ 18 ∷ 20 ∷ []) n
     (of_none (1 ∷ 2 ∷ []) (8 ∷ 9 ∷ 10 ∷ []) n
-    (λ h. h)
-    (of_none (8 ∷ []) (9 ∷ 10 ∷ []) n
-    (λ h. h)
-    (λ h. h)))
-    (of_none (12 ∷ 13 ∷ []) (14 ∷ 18 ∷ 20 ∷ []) n
-    (λ h. h)
-    (of_none (14 ∷ []) (18 ∷ 20 ∷ []) n
-    (λ h. h)
-    (λ h. h)))) h)
+    (λ h. h) (of_none (8 ∷ []) (9 ∷ 10 ∷ []) n
+    (λ h. h) (λ h. h))) (of_none (12 ∷ 13 ∷ []) (14 ∷ 18 ∷ 20 ∷ []) n
+    (λ h. h) (of_none (14 ∷ []) (18 ∷ 20 ∷ []) n
+    (λ h. h) (λ h. h)))) h)
 
 -- the table of the typed layer has the same rows
 pub can_lookup : (n : ℕ) → lookup_of (can_rows n) ≡ lookup_in (typed_shape_of family.Can n)

@@ -5,10 +5,7 @@ use Rattle.std.specs.Prelude.{
   ◌&&◌,
   ℕ,
   Bool,
-  if◌then◌else◌,
   List,
-  [],
-  ◌∷◌,
   Result,
   Ok,
   Err,
@@ -24,7 +21,6 @@ use Rattle.nla_frame.specs.declared.error.Family.{Family}
 use Rattle.linkinfo_shapes.specs.declared.shape.Shape.{Shape}
 use Rattle.linkinfo_table.specs.ByRows.{members_written_by_rows}
 use Rattle.linkinfo_table.specs.Contents.{Contents}
-use Rattle.linkinfo_table.specs.CustomRows.{headers_either}
 use Rattle.linkinfo_table.specs.FamilyRows.{FamilyRow, row_of}
 use Rattle.linkinfo_table.specs.Lists.{◌>>=◌, alike_pairs, headers_of, values}
 use Rattle.linkinfo_table.specs.Members.{Members, list_of, listed_of}
@@ -90,44 +86,23 @@ module _ {X Y : Type 0} (family : Family) (other : DefaultNla → X) (rows : ℕ
 abbrev pub headers_in : {Y : Type 0} → Members Y → List ℕ → ℕ
 headers_in inner p = headers_of inner.meaning inner.headers (nla_items p)
 
--- the types of a family with such payloads, in order, and the headers in these
-abbrev pub headers_by : List (ℕ × (List ℕ → ℕ)) → Attribute → ℕ
-headers_by [] a = 0
-headers_by (row ∷ rows) a = headers_either row.0 row.1 (headers_by rows) a
-
-abbrev pub first_of_type : List (ℕ × (List ℕ → ℕ)) → ℕ → List ℕ → ℕ
-first_of_type [] number p = 0
-first_of_type (row ∷ rows) number p =
-    if number == row.0 then row.1 p else first_of_type rows number p
-
-pub row_headers_are : (rows : List (ℕ × (List ℕ → ℕ))) (a : Attribute) (number : ℕ) →
-    masked a.kind ≡ number → headers_by rows a ≡ first_of_type rows number a.value
-row_headers_are rows a number typed =
-    subst (λ (n : ℕ). headers_by rows a ≡ first_of_type rows n a.value) typed (go rows)
-  where
-    go : (rows : List (ℕ × (List ℕ → ℕ))) →
-        headers_by rows a ≡ first_of_type rows (masked a.kind) a.value
-    go [] = refl
-    go (row ∷ rows) =
-        ap (λ (others : ℕ). if masked a.kind == row.0 then row.1 a.value else others) (go rows)
-
 -- an attribute of a row with such a payload holds the list
 pub holds_list : {X Y : Type 0} {within : List Family} {contents : ℕ → Contents} {is_set : Bool}
     (family : Family) (other : DefaultNla → X)
-    (attribute : X → Attribute) (rows : ℕ → FamilyRow X) (lists : List (ℕ × (List ℕ → ℕ)))
+    (attribute : X → Attribute) (rows : ℕ → FamilyRow X) (headers : ℕ → List ℕ → ℕ)
     (inner : Members Y) (shape : Shape) (nested : Bool) (number kind : ℕ) (label : List Y → X) →
     HasPayload (rows number) shape nested (list_of inner) label →
-    ((p : List ℕ) → first_of_type lists number p ≡ headers_in inner p) →
+    ((p : List ℕ) → headers number p ≡ headers_in inner p) →
     ((xs : List Y) →
     attribute (label xs) ≡ record { kind = kind; value = list_string (map inner.attribute xs) }) →
     contents number ≡ listed_of inner →
     HoldsListOf
-    (members_written_by_rows family other attribute rows attribute (headers_by lists) within
-    contents is_set) inner number kind label
-holds_list family other attribute rows lists inner shape nested number kind label row count keeps
+    (members_written_by_rows family other attribute rows attribute
+    (λ a. headers (masked a.kind) a.value) within contents is_set) inner number kind label
+holds_list family other attribute rows headers inner shape nested number kind label row count keeps
     contains = record {
       means = row_means family other rows inner shape nested number label row;
-      headers = λ a typed. row_headers_are lists a number typed ∙ count a.value;
+      headers = λ a typed. ap (λ (n : ℕ). headers n a.value) typed ∙ count a.value;
       alike = λ a b typed.
           row_is_alike family other rows inner shape nested number label row a typed b;
       contains = contains;

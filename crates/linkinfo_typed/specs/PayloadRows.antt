@@ -36,7 +36,6 @@ use Rattle.linkinfo_table.specs.FamilyRows.{
 use Rattle.linkinfo_table.specs.Members.{Members}
 use Rattle.linkinfo_table.specs.Rows.{alike_in, labelled, meaning_in, row_alike, row_meaning}
 use Rattle.linkinfo_table.specs.TypedRows.{HasPayload, with_row}
-use Rattle.linkinfo_typed.specs.NestedLists.{first_of_type, headers_by, row_headers_are}
 use Rattle.linkinfo_table.specs.declared.decoded.Decoded.{Decoded}
 use Rattle.linkinfo_table.specs.declared.decoded.Decoded.TheVariants as decoded
 
@@ -46,22 +45,22 @@ is_among [] n = false
 is_among (k ∷ ks) n = (n == k) || is_among ks n
 
 -- a type that is among neither of two lists is not among both together
+pub beside_both : (xs ys : List ℕ) (n : ℕ) → is_among xs n ≡ false → is_among ys n ≡ false →
+    is_among (xs ++ ys) n ≡ false
+beside_both [] ys n first second = second
+beside_both (k ∷ ks) ys n first second =
+    go (n == k) (λ e. beside_both ks ys n e second) first
+  where
+    go : (b : Bool) → (is_among ks n ≡ false → is_among (ks ++ ys) n ≡ false) →
+        (b || is_among ks n) ≡ false → (b || is_among (ks ++ ys) n) ≡ false
+    go true more e = e
+    go false more e = more e
+
+-- .. where they are among others if they are not among these
 pub of_none : (xs ys : List ℕ) (n : ℕ) {p q : Bool} → (p ≡ false → is_among xs n ≡ false) →
     (q ≡ false → is_among ys n ≡ false) → (p || q) ≡ false → is_among (xs ++ ys) n ≡ false
-of_none xs ys n {p} {q} here there h = go p q here there h
-  where
-    beside : (ks : List ℕ) → is_among ks n ≡ false → is_among ys n ≡ false →
-        is_among (ks ++ ys) n ≡ false
-    beside [] k l = l
-    beside (k ∷ ks) first l = after (n == k) first
-      where
-        after : (b : Bool) → (b || is_among ks n) ≡ false → (b || is_among (ks ++ ys) n) ≡ false
-        after true e = e
-        after false e = beside ks e l
-    go : (p q : Bool) → (p ≡ false → is_among xs n ≡ false) →
-        (q ≡ false → is_among ys n ≡ false) → (p || q) ≡ false → is_among (xs ++ ys) n ≡ false
-    go true q here there h = absurd cc
-    go false q here there h = beside xs (here refl) (there h)
+of_none xs ys n {p = true} here there h = absurd cc
+of_none xs ys n {p = false} here there h = beside_both xs ys n (here refl) (there h)
 
 -- whether a value contains one of these payloads
 abbrev pub is_held : {X : Type 0} → List (X → Bool) → X → Bool
@@ -130,18 +129,18 @@ module _ {X : Type 0} (family : Family) (other : DefaultNla → X) (rows : ℕ �
 
 pub holds_payload : {X : Type 0} {within : List Family} {contents : ℕ → Contents} {is_set : Bool}
     (family : Family) (other : DefaultNla → X)
-    (attribute : X → Attribute) (rows : ℕ → FamilyRow X) (lists : List (ℕ × (List ℕ → ℕ)))
+    (attribute : X → Attribute) (rows : ℕ → FamilyRow X) (headers : ℕ → List ℕ → ℕ)
     (codec : Codec) (shape : Shape) (nested : Bool) (number kind : ℕ)
     (label : codec.Carrier → X) → HasPayload (rows number) shape nested codec label →
-    ((p : List ℕ) → first_of_type lists number p ≡ codec.headers p) →
+    ((p : List ℕ) → headers number p ≡ codec.headers p) →
     ((x : codec.Carrier) → attribute (label x) ≡ record { kind = kind; value = codec.canon x }) →
     HoldsPayload
-    (members_written_by_rows family other attribute rows attribute (headers_by lists) within
-    contents is_set) codec number kind label
-holds_payload family other attribute rows lists codec shape nested number kind label row count
+    (members_written_by_rows family other attribute rows attribute
+    (λ a. headers (masked a.kind) a.value) within contents is_set) codec number kind label
+holds_payload family other attribute rows headers codec shape nested number kind label row count
     keeps = record {
       means = row_means family other rows codec shape nested number label row;
-      headers = λ a typed. row_headers_are lists a number typed ∙ count a.value;
+      headers = λ a typed. ap (λ (n : ℕ). headers n a.value) typed ∙ count a.value;
       alike = λ a b typed.
           row_is_alike family other rows codec shape nested number label row a typed b;
       written = keeps;

@@ -1,6 +1,19 @@
 -- Written by tables/generate from tables/vlan.
 -- The rows of `vlan` links.
-use Rattle.std.specs.Prelude.{◌≡◌, ℕ, Bool, true, false, List, [], ◌∷◌, map, refl}
+use Rattle.std.specs.Prelude.{
+  ◌≡◌,
+  ◌==◌,
+  ℕ,
+  Bool,
+  if◌then◌else◌,
+  true,
+  false,
+  List,
+  [],
+  ◌∷◌,
+  map,
+  refl,
+}
 use Rattle.std.proofs.Common.{ap, lit<}
 use Rattle.nla_frame.specs.Attribute.{Attribute, list_string}
 use Rattle.nla_frame.specs.Kept.{attribute_of}
@@ -24,6 +37,7 @@ use Rattle.linkinfo_table.specs.FamilyRows.{
 use Rattle.linkinfo_table.specs.Members.{list_of, list_of_is_codec}
 use Rattle.linkinfo_table.specs.TypedRows.{with_flat, with_lookup, with_owes, with_row}
 use Rattle.linkinfo_table.specs.declared.decoded.Decoded.{Decoded}
+use Rattle.linkinfo_typed.specs.NestedLists.{headers_in}
 use Rattle.linkinfo_typed.specs.PayloadRows.{is_among, is_held, with_suits}
 use Rattle.linkinfo_shapes.specs.Typed.{typed_shape_of}
 use Rattle.linkinfo_shapes.specs.declared.shape.Shape.TheVariants.{Le16, FlagPair, Nested, Be16}
@@ -110,6 +124,13 @@ vlan_flat n h =
     with_flat 4 (Nested family.VlanQosMapping) false (list_of vlan_qos_mapping_members)
     (λ x. IngressQos x) (table_row vlan_plain) false n e (λ _.
     table_flat vlan_attribute vlan_plain vlan_keeps n))
+
+-- the headers in a payload of each type
+abbrev pub vlan_headers : ℕ → List ℕ → ℕ
+vlan_headers n p =
+    if n == 3 then headers_in vlan_qos_mapping_members p else
+    if n == 4 then headers_in vlan_qos_mapping_members p else
+    0
 
 -- the table of the typed layer has the same rows
 pub vlan_lookup : (n : ℕ) → lookup_of (vlan_rows n) ≡ lookup_in (typed_shape_of family.Vlan n)

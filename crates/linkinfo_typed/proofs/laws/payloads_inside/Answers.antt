@@ -1,4 +1,4 @@
-use Rattle.std.specs.Prelude.{ℕ, false, true, List, [], ◌∷◌, refl}
+use Rattle.std.specs.Prelude.{false, true, refl}
 use Rattle.nla_frame.specs.declared.error.Family.TheVariants as family
 -- Begin: written by tables/generate from tables/families (shapes).
 use Rattle.linkinfo_shapes.specs.declared.shape.Shape.TheVariants.{
@@ -23,107 +23,80 @@ use Rattle.linkinfo_payloads.specs.Payloads.{
   v6_list_codec,
 }
 -- End: written by tables/generate.
--- Begin: written by tables/generate from tables/families (counted).
--- End: written by tables/generate.
 use Rattle.linkinfo_typed.specs.PayloadRows.{holds_payload}
 use Rattle.linkinfo_typed.proofs.laws.payloads_inside.Goals as goal
--- Begin: written by tables/generate from tables/families (members).
--- End: written by tables/generate.
 -- Begin: written by tables/generate from tables/families (rows).
-use Rattle.linkinfo_typed.specs.Bond.{bond_attribute, bond_rows}
+use Rattle.linkinfo_typed.specs.Bond.{bond_attribute, bond_headers, bond_rows}
 use Rattle.linkinfo_typed.specs.declared.bond.InfoBond.TheVariants as bond
-use Rattle.linkinfo_typed.specs.Can.{can_attribute, can_rows}
+use Rattle.linkinfo_typed.specs.Can.{can_attribute, can_headers, can_rows}
 use Rattle.linkinfo_typed.specs.declared.can.InfoCan.TheVariants as can
-
--- End: written by tables/generate.
-
--- Begin: written by tables/generate from tables/families (headers).
-abbrev bond_lists : List (ℕ × (List ℕ → ℕ))
-bond_lists =
-    (8, v4_list_codec.headers) ∷
-    (31, v6_list_codec.headers) ∷
-    []
-
-abbrev can_lists : List (ℕ × (List ℕ → ℕ))
-can_lists =
-    (1, can_bit_timing_codec.headers) ∷
-    (2, can_bit_timing_const_codec.headers) ∷
-    (8, can_berr_counter_codec.headers) ∷
-    (9, can_bit_timing_codec.headers) ∷
-    (10, can_bit_timing_const_codec.headers) ∷
-    (12, le16s_codec.headers) ∷
-    (13, le32s_codec.headers) ∷
-    (14, le32s_codec.headers) ∷
-    (18, can_bit_timing_codec.headers) ∷
-    (20, le32s_codec.headers) ∷
-    []
 
 -- End: written by tables/generate.
 
 -- Begin: written by tables/generate from tables/families (clauses).
 pub returns-clause-bond_arp_ip_target : goal.returns-clause-bond_arp_ip_target
 returns-clause-bond_arp_ip_target c =
-    holds_payload family.Bond (λ d. bond.Other d) bond_attribute bond_rows bond_lists
+    holds_payload family.Bond (λ d. bond.Other d) bond_attribute bond_rows bond_headers
     v4_list_codec V4List false 8 8 (λ x. bond.ArpIpTarget x) has_payload (λ _. refl) (λ _. refl)
 
 pub returns-clause-bond_ns_ip6_target : goal.returns-clause-bond_ns_ip6_target
 returns-clause-bond_ns_ip6_target c =
-    holds_payload family.Bond (λ d. bond.Other d) bond_attribute bond_rows bond_lists
+    holds_payload family.Bond (λ d. bond.Other d) bond_attribute bond_rows bond_headers
     v6_list_codec V6List true 31 32799 (λ x. bond.NsIp6Target x) has_payload (λ _. refl) (λ _. refl)
 
 pub returns-clause-can_bit_timing : goal.returns-clause-can_bit_timing
 returns-clause-can_bit_timing c =
-    holds_payload family.Can (λ d. can.Other d) can_attribute can_rows can_lists
+    holds_payload family.Can (λ d. can.Other d) can_attribute can_rows can_headers
     can_bit_timing_codec Le32x8 false 1 1 (λ x. can.BitTiming x) has_payload (λ _. refl) (λ _. refl)
 
 pub returns-clause-can_bit_timing_const : goal.returns-clause-can_bit_timing_const
 returns-clause-can_bit_timing_const c =
-    holds_payload family.Can (λ d. can.Other d) can_attribute can_rows can_lists
+    holds_payload family.Can (λ d. can.Other d) can_attribute can_rows can_headers
     can_bit_timing_const_codec CanBitTimingConst false 2 2
     (λ x. can.BitTimingConst x) has_payload (λ _. refl) (λ _. refl)
 
 pub returns-clause-can_berr_counter : goal.returns-clause-can_berr_counter
 returns-clause-can_berr_counter c =
-    holds_payload family.Can (λ d. can.Other d) can_attribute can_rows can_lists
+    holds_payload family.Can (λ d. can.Other d) can_attribute can_rows can_headers
     can_berr_counter_codec LePair16 false 8 8
     (λ x. can.BerrCounter x) has_payload (λ _. refl) (λ _. refl)
 
 pub returns-clause-can_data_bit_timing : goal.returns-clause-can_data_bit_timing
 returns-clause-can_data_bit_timing c =
-    holds_payload family.Can (λ d. can.Other d) can_attribute can_rows can_lists
+    holds_payload family.Can (λ d. can.Other d) can_attribute can_rows can_headers
     can_bit_timing_codec Le32x8 false 9 9
     (λ x. can.DataBitTiming x) has_payload (λ _. refl) (λ _. refl)
 
 pub returns-clause-can_data_bit_timing_const : goal.returns-clause-can_data_bit_timing_const
 returns-clause-can_data_bit_timing_const c =
-    holds_payload family.Can (λ d. can.Other d) can_attribute can_rows can_lists
+    holds_payload family.Can (λ d. can.Other d) can_attribute can_rows can_headers
     can_bit_timing_const_codec CanBitTimingConst false 10 10
     (λ x. can.DataBitTimingConst x) has_payload (λ _. refl) (λ _. refl)
 
 pub returns-clause-can_termination_const : goal.returns-clause-can_termination_const
 returns-clause-can_termination_const c =
-    holds_payload family.Can (λ d. can.Other d) can_attribute can_rows can_lists
+    holds_payload family.Can (λ d. can.Other d) can_attribute can_rows can_headers
     le16s_codec Le16s false 12 12 (λ x. can.TerminationConst x) has_payload (λ _. refl) (λ _. refl)
 
 pub returns-clause-can_bit_rate_const : goal.returns-clause-can_bit_rate_const
 returns-clause-can_bit_rate_const c =
-    holds_payload family.Can (λ d. can.Other d) can_attribute can_rows can_lists
+    holds_payload family.Can (λ d. can.Other d) can_attribute can_rows can_headers
     le32s_codec Le32s false 13 13 (λ x. can.BitRateConst x) has_payload (λ _. refl) (λ _. refl)
 
 pub returns-clause-can_data_bit_rate_const : goal.returns-clause-can_data_bit_rate_const
 returns-clause-can_data_bit_rate_const c =
-    holds_payload family.Can (λ d. can.Other d) can_attribute can_rows can_lists
+    holds_payload family.Can (λ d. can.Other d) can_attribute can_rows can_headers
     le32s_codec Le32s false 14 14 (λ x. can.DataBitRateConst x) has_payload (λ _. refl) (λ _. refl)
 
 pub returns-clause-can_xl_data_bit_timing : goal.returns-clause-can_xl_data_bit_timing
 returns-clause-can_xl_data_bit_timing c =
-    holds_payload family.Can (λ d. can.Other d) can_attribute can_rows can_lists
+    holds_payload family.Can (λ d. can.Other d) can_attribute can_rows can_headers
     can_bit_timing_codec Le32x8 false 18 18
     (λ x. can.XlDataBitTiming x) has_payload (λ _. refl) (λ _. refl)
 
 pub returns-clause-can_xl_data_bit_rate_const : goal.returns-clause-can_xl_data_bit_rate_const
 returns-clause-can_xl_data_bit_rate_const c =
-    holds_payload family.Can (λ d. can.Other d) can_attribute can_rows can_lists
+    holds_payload family.Can (λ d. can.Other d) can_attribute can_rows can_headers
     le32s_codec Le32s false 20 20
     (λ x. can.XlDataBitRateConst x) has_payload (λ _. refl) (λ _. refl)
 
