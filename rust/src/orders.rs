@@ -16,6 +16,8 @@ where
 impl<P: DataLayer> PartialOrd for VecLinkInfoOf<P>
 where
     LinkInfoOf<P>: PartialOrd,
+    P::Data: PartialEq,
+    P::PortData: PartialEq,
 {
     fn partial_cmp(&self, other: &VecLinkInfoOf<P>) -> Option<Ordering> {
         self.0.partial_cmp(&other.0)
@@ -25,6 +27,8 @@ where
 impl<P: DataLayer> Ord for VecLinkInfoOf<P>
 where
     LinkInfoOf<P>: Ord,
+    P::Data: Eq,
+    P::PortData: Eq,
 {
     fn cmp(&self, other: &VecLinkInfoOf<P>) -> Ordering {
         self.0.cmp(&other.0)

@@ -173,6 +173,9 @@ pub fn equality<T: ExactEq>()
 
 /// `==` of two lists returns true if and only if both hold equal values in the same order.
 pub fn equal_lists<P: DataLayer>()
+where
+    P::Data: ExactEq + Eq,
+    P::PortData: ExactEq + Eq,
     ensures { (x y : LinkList P.families) →
         IsTrue (⟦<VecLinkInfoOf<P> as PartialEq>⟧.eq x y) ↔ (x ≡ y) }
 {

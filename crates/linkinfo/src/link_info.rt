@@ -87,7 +87,11 @@ impl<P: DataLayer> Nla for LinkInfoOf<P> {
     }
 }
 
-impl<P: DataLayer> ExactEq for LinkInfoOf<P> {
+impl<P: DataLayer> ExactEq for LinkInfoOf<P>
+where
+    P::Data: ExactEq + Eq,
+    P::PortData: ExactEq + Eq,
+{
     ghost use Rattle.nla_frame.specs.Derived.{one_field};
     ghost use Rattle.nla_frame.specs.Pairs.{◌&◌};
     ghost use Rattle.linkinfo.specs.LinkVariants.{by_variants};

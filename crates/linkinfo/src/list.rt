@@ -156,8 +156,36 @@ fn check_string<P: DataLayer>(bytes: &[u8], count: &mut HeaderCount) -> Result<(
 /// It is built from a `Vec` by `From`, iterated over by `iter` or a `for` loop, and serialized by
 /// `to_vec`. To serialize it into an existing buffer, call `nlas_fit_len` and `emit_nlas` on
 /// `as_slice`.
-#[derive(PartialEq, Eq, Drop)]
+#[derive(Drop)]
 pub struct VecLinkInfoOf<P: DataLayer>(pub Nlas<LinkInfoOf<P>>);
+
+impl<P: DataLayer> PartialEq for VecLinkInfoOf<P>
+where
+    P::Data: PartialEq,
+    P::PortData: PartialEq,
+{
+    ghost use Rattle.std.proofs.Common.{rules};
+    ghost use Rattle.std.specs.Cmp.Rules.{comparing};
+
+    ghost eq = { λ a b. ⟦<Nlas<LinkInfoOf<P>> as PartialEq>⟧.eq a.0 b.0 };
+
+    ghost laws = { Prim.search (comparing, rules) };
+
+    fn eq(&self, other: &VecLinkInfoOf<P>) -> bool {
+        self.0 == other.0
+    }
+}
+
+impl<P: DataLayer> Eq for VecLinkInfoOf<P>
+where
+    P::Data: Eq,
+    P::PortData: Eq,
+{
+    ghost use Rattle.std.proofs.Common.{rules};
+    ghost use Rattle.std.specs.Cmp.Rules.{comparing};
+
+    ghost laws = { Prim.search (comparing, rules) };
+}
 
 impl<P: DataLayer + Debug> Debug for VecLinkInfoOf<P>
 where
@@ -183,7 +211,11 @@ where
 /// families.
 pub type VecLinkInfo = VecLinkInfoOf<Bytes>;
 
-impl<P: DataLayer> ExactEq for VecLinkInfoOf<P> {
+impl<P: DataLayer> ExactEq for VecLinkInfoOf<P>
+where
+    P::Data: ExactEq + Eq,
+    P::PortData: ExactEq + Eq,
+{
     ghost use Rattle.std.specs.Prelude.{refl};
     ghost use Rattle.std.specs.Cmp.Lexicographic.{pointwise_decides};
     ghost use Rattle.nla_frame.specs.Derived.{fields_decide, one_field};

@@ -25,7 +25,7 @@ use crate::tunnels::{TunnelFamily, of_tunnel};
 use linkinfo_devices::InfoVrfPort;
 use linkinfo_peers::InfoTeamPort;
 use linkinfo_table::{LayerFamilies, LinkLayer, LinkPeer, Supplied};
-use nla_frame::{Bytes, DecodeError, ExactEq, HeaderCount};
+use nla_frame::{Bytes, DecodeError, HeaderCount};
 use std::alloc::Global;
 use std::marker::PhantomData;
 
@@ -36,10 +36,10 @@ use std::marker::PhantomData;
 /// Contracts of generic code speak of `families`, and know of them only that they are lawful.
 pub trait DataLayer: Eq + Sized {
     /// The data of a link over the layer.
-    type Data: Eq + ExactEq + Drop;
+    type Data: Drop;
 
     /// The data of a port over the layer.
-    type PortData: Eq + ExactEq + Drop;
+    type PortData: Drop;
 
     /// What payloads mean as data and as port data, and the canonical payloads of both.
     ghost families: { DataFamilies (record {

@@ -15,7 +15,7 @@ use crate::layers::data::peers::{PeeredFamily, of_peered};
 use crate::layers::data::port_data::{InfoPortDataOf, PortFamily, encode_port_data, of_port};
 use crate::layers::data::tunnels::{TunnelFamily, of_tunnel};
 use crate::layers::devices::InfoVrfPort;
-use crate::layers::nla_frame::{Bytes, DecodeError, ExactEq, HeaderCount};
+use crate::layers::nla_frame::{Bytes, DecodeError, HeaderCount};
 use crate::layers::peers::InfoTeamPort;
 use crate::layers::table::{LinkLayer, LinkPeer, Supplied};
 use core::marker::PhantomData;
@@ -34,10 +34,10 @@ use core::marker::PhantomData;
 /// [`InfoPortDataOf`]: crate::layers::data::InfoPortDataOf
 pub trait DataLayer: Eq + Sized {
     /// The data of a link over the layer.
-    type Data: Eq + ExactEq;
+    type Data;
 
     /// The data of a port over the layer.
-    type PortData: Eq + ExactEq;
+    type PortData;
 
     /// Parses a payload as data of a family, as [`PayloadFamily::read`] does.
     ///

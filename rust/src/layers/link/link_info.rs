@@ -89,4 +89,9 @@ impl<P: DataLayer> Nla for LinkInfoOf<P> {
     }
 }
 
-impl<P: DataLayer> ExactEq for LinkInfoOf<P> {}
+impl<P: DataLayer> ExactEq for LinkInfoOf<P>
+where
+    P::Data: ExactEq + Eq,
+    P::PortData: ExactEq + Eq,
+{
+}

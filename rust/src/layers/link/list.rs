@@ -91,8 +91,24 @@ fn check_string<P: DataLayer>(bytes: &[u8], count: &mut HeaderCount) -> Result<(
 /// [`nlas_fit_len`]: crate::layers::nla_frame::nlas_fit_len
 /// [`emit_nlas`]: crate::layers::nla_frame::emit_nlas
 /// [`as_slice`]: crate::layers::link::VecLinkInfoOf::as_slice
-#[derive(PartialEq, Eq)]
 pub struct VecLinkInfoOf<P: DataLayer>(pub Nlas<LinkInfoOf<P>>);
+
+impl<P: DataLayer> PartialEq for VecLinkInfoOf<P>
+where
+    P::Data: PartialEq,
+    P::PortData: PartialEq,
+{
+    fn eq(&self, other: &VecLinkInfoOf<P>) -> bool {
+        self.0 == other.0
+    }
+}
+
+impl<P: DataLayer> Eq for VecLinkInfoOf<P>
+where
+    P::Data: Eq,
+    P::PortData: Eq,
+{
+}
 
 impl<P: DataLayer + Debug> Debug for VecLinkInfoOf<P>
 where
@@ -118,7 +134,12 @@ where
 /// families.
 pub type VecLinkInfo = VecLinkInfoOf<Bytes>;
 
-impl<P: DataLayer> ExactEq for VecLinkInfoOf<P> {}
+impl<P: DataLayer> ExactEq for VecLinkInfoOf<P>
+where
+    P::Data: ExactEq + Eq,
+    P::PortData: ExactEq + Eq,
+{
+}
 
 impl<P: DataLayer> VecLinkInfoOf<P> {
     /// Returns the `Vec` of the attributes.
