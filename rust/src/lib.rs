@@ -210,11 +210,11 @@ pub use bitflags::Flags;
 // Begin: written by tables/generate from tables/numbers.
 pub use layers::numbers::{
     AmtMode, ErSpanDir, EthernetProtocol, GeneveDf, GreEncapFlags, GreEncapType, GreIOFlags,
-    GtpRole, InfoRmNetFlags, Ip6TunnelFlags, IpProtocol, IpVlanFlags, IpVlanMode, IpVtapFlags,
-    IpVtapMode, IpoibMode, MacSecCipherId, MacSecOffload, MacSecValidate, MacVlanFlags,
-    MacVlanMacAddressMode, MacVlanMode, MacVtapFlags, MacVtapMacAddressMode, MacVtapMode,
-    NetkitMode, NetkitPolicy, NetkitScrub, RmNetFlags, TunnelEncapFlags, TunnelEncapType,
-    VlanFlags, VlanProtocol, VxlanDf,
+    GtpRole, HsrProtocol, InfoRmNetFlags, Ip6TunnelFlags, IpProtocol, IpVlanFlags, IpVlanMode,
+    IpVtapFlags, IpVtapMode, IpoibMode, MacSecCipherId, MacSecOffload, MacSecValidate,
+    MacVlanFlags, MacVlanMacAddressMode, MacVlanMode, MacVtapFlags, MacVtapMacAddressMode,
+    MacVtapMode, NetkitMode, NetkitPolicy, NetkitScrub, RmNetFlags, TunType, TunnelEncapFlags,
+    TunnelEncapType, VlanFlags, VlanProtocol, VxlanDf,
 };
 // End: written by tables/generate.
 

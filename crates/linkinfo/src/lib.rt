@@ -61,11 +61,11 @@ pub use linkinfo_devices::{InfoIpVlanOf, InfoVrfPort};
 // Begin: written by tables/generate from tables/numbers.
 pub use linkinfo_numbers::{
     AmtMode, ErSpanDir, EthernetProtocol, GeneveDf, GreEncapFlags, GreEncapType, GreIOFlags,
-    GtpRole, InfoRmNetFlags, Ip6TunnelFlags, IpProtocol, IpVlanFlags, IpVlanMode, IpVtapFlags,
-    IpVtapMode, IpoibMode, MacSecCipherId, MacSecOffload, MacSecValidate, MacVlanFlags,
-    MacVlanMacAddressMode, MacVlanMode, MacVtapFlags, MacVtapMacAddressMode, MacVtapMode,
-    NetkitMode, NetkitPolicy, NetkitScrub, RmNetFlags, TunnelEncapFlags, TunnelEncapType,
-    VlanFlags, VlanProtocol, VxlanDf,
+    GtpRole, HsrProtocol, InfoRmNetFlags, Ip6TunnelFlags, IpProtocol, IpVlanFlags, IpVlanMode,
+    IpVtapFlags, IpVtapMode, IpoibMode, MacSecCipherId, MacSecOffload, MacSecValidate,
+    MacVlanFlags, MacVlanMacAddressMode, MacVlanMode, MacVtapFlags, MacVtapMacAddressMode,
+    MacVtapMode, NetkitMode, NetkitPolicy, NetkitScrub, RmNetFlags, TunType, TunnelEncapFlags,
+    TunnelEncapType, VlanFlags, VlanProtocol, VxlanDf,
 };
 // End: written by tables/generate.
 // Begin: written by tables/generate from tables/kinds (peered).

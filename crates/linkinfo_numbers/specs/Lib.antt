@@ -4,6 +4,7 @@ pub mod Ethernet
 pub mod Geneve
 pub mod Gre
 pub mod Gtp
+pub mod Hsr
 pub mod Ip
 pub mod Ipoib
 pub mod Ipvlan
@@ -11,6 +12,7 @@ pub mod Macsec
 pub mod Macvlan
 pub mod Netkit
 pub mod Rmnet
+pub mod Tun
 pub mod Tunnel
 pub mod Vlan
 pub mod Vxlan

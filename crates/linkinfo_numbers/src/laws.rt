@@ -37,6 +37,12 @@ ghost use Rattle.linkinfo_numbers.specs.Gre.{
   gre_encap_flags,
 };
 ghost use Rattle.linkinfo_numbers.specs.Gtp.{gtp_role, gtp_role_number, gtp_role_table};
+ghost use Rattle.linkinfo_numbers.specs.Hsr.{
+  hsr_protocol,
+  hsr_protocol_number,
+  hsr_protocol_table,
+  hsr_protocol_text,
+};
 ghost use Rattle.linkinfo_numbers.specs.Ip.{ip_protocol, ip_protocol_number, ip_protocol_table};
 ghost use Rattle.linkinfo_numbers.specs.Ipoib.{ipoib_mode, ipoib_mode_number, ipoib_mode_table};
 ghost use Rattle.linkinfo_numbers.specs.Ipvlan.{
@@ -78,6 +84,12 @@ ghost use Rattle.linkinfo_numbers.specs.Netkit.{
   netkit_policy_text,
 };
 ghost use Rattle.linkinfo_numbers.specs.Rmnet.{rm_net_flags};
+ghost use Rattle.linkinfo_numbers.specs.Tun.{
+  tun_type,
+  tun_type_number,
+  tun_type_table,
+  tun_type_text,
+};
 ghost use Rattle.linkinfo_numbers.specs.Tunnel.{
   tunnel_encap_type,
   tunnel_encap_type_number,
@@ -124,6 +136,7 @@ use crate::ethernet::EthernetProtocol;
 use crate::geneve::GeneveDf;
 use crate::gre::{ErSpanDir, GreEncapFlags, GreEncapType, GreIOFlags};
 use crate::gtp::GtpRole;
+use crate::hsr::HsrProtocol;
 use crate::ip::IpProtocol;
 use crate::ipoib::IpoibMode;
 use crate::ipvlan::{IpVlanFlags, IpVlanMode};
@@ -131,6 +144,7 @@ use crate::macsec::{MacSecCipherId, MacSecOffload, MacSecValidate};
 use crate::macvlan::{MacVlanFlags, MacVlanMacAddressMode, MacVlanMode};
 use crate::netkit::{NetkitMode, NetkitPolicy};
 use crate::rmnet::RmNetFlags;
+use crate::tun::TunType;
 use crate::tunnel::{Ip6TunnelFlags, TunnelEncapFlags, TunnelEncapType};
 use crate::vlan::{VlanFlags, VlanProtocol};
 use crate::vxlan::VxlanDf;
@@ -151,6 +165,7 @@ pub fn number_round_trip(number: u64)
     ensures gre_encap_type { gre_encap_type_number (gre_encap_type number) ≡ number }
     ensures er_span_dir { er_span_dir_number (er_span_dir number) ≡ number }
     ensures gtp_role { gtp_role_number (gtp_role number) ≡ number }
+    ensures hsr_protocol { hsr_protocol_number (hsr_protocol number) ≡ number }
     ensures ip_protocol { ip_protocol_number (ip_protocol number) ≡ number }
     ensures ipoib_mode { ipoib_mode_number (ipoib_mode number) ≡ number }
     ensures ip_vlan_mode { ip_vlan_mode_number (ip_vlan_mode number) ≡ number }
@@ -162,6 +177,7 @@ pub fn number_round_trip(number: u64)
         (mac_vlan_mac_address_mode number) ≡ number }
     ensures netkit_mode { netkit_mode_number (netkit_mode number) ≡ number }
     ensures netkit_policy { netkit_policy_number (netkit_policy number) ≡ number }
+    ensures tun_type { tun_type_number (tun_type number) ≡ number }
     ensures tunnel_encap_type { tunnel_encap_type_number (tunnel_encap_type number) ≡ number }
     ensures vlan_protocol { vlan_protocol_number (vlan_protocol number) ≡ number }
     ensures vxlan_df { vxlan_df_number (vxlan_df number) ≡ number }
@@ -180,6 +196,7 @@ pub fn value_round_trip()
     ensures gre_encap_type { ReadsBackWhereProper gre_encap_type_table }
     ensures er_span_dir { ReadsBackWhereProper er_span_dir_table }
     ensures gtp_role { ReadsBackWhereProper gtp_role_table }
+    ensures hsr_protocol { ReadsBackWhereProper hsr_protocol_table }
     ensures ip_protocol { ReadsBackWhereProper ip_protocol_table }
     ensures ipoib_mode { ReadsBackWhereProper ipoib_mode_table }
     ensures ip_vlan_mode { ReadsBackWhereProper ip_vlan_mode_table }
@@ -190,6 +207,7 @@ pub fn value_round_trip()
     ensures mac_vlan_mac_address_mode { ReadsBackWhereProper mac_vlan_mac_address_mode_table }
     ensures netkit_mode { ReadsBackWhereProper netkit_mode_table }
     ensures netkit_policy { ReadsBackWhereProper netkit_policy_table }
+    ensures tun_type { ReadsBackWhereProper tun_type_table }
     ensures tunnel_encap_type { ReadsBackWhereProper tunnel_encap_type_table }
     ensures vlan_protocol { ReadsBackWhereProper vlan_protocol_table }
     ensures vxlan_df { ReadsBackWhereProper vxlan_df_table }
@@ -205,10 +223,12 @@ pub fn word_round_trip()
     // Begin: written by tables/generate from tables/numbers (of words).
     ensures amt_mode { ReadsWords Family.Amt amt_mode_text amt_mode_table.named }
     ensures geneve_df { ReadsWords Family.Geneve geneve_df_text geneve_df_table.named }
+    ensures hsr_protocol { ReadsWords Family.Hsr hsr_protocol_text hsr_protocol_table.named }
     ensures ip_vlan_mode { ReadsWords Family.IpVlan ip_vlan_mode_text ip_vlan_mode_table.named }
     ensures mac_vlan_mode { ReadsWords Family.MacVlan mac_vlan_mode_text mac_vlan_mode_table.named }
     ensures netkit_mode { ReadsWords Family.Netkit netkit_mode_text netkit_mode_table.named }
     ensures netkit_policy { ReadsWords Family.Netkit netkit_policy_text netkit_policy_table.named }
+    ensures tun_type { ReadsWords Family.Tun tun_type_text tun_type_table.named }
     ensures vlan_protocol { ReadsWords Family.Vlan vlan_protocol_text vlan_protocol_table.named }
     // End: written by tables/generate.
     ensures netkit_scrub { ReadsWords Family.Netkit netkit_scrub_text netkit_scrubs }

@@ -11,6 +11,7 @@ use Rattle.linkinfo_shapes.specs.declared.shape.Shape.TheVariants.{
   Le16,
   Le32,
   Be16,
+  Truth,
   Mac,
   FlagPair,
   Nested,
@@ -92,6 +93,39 @@ can_rows =
     (15, Le32) ∷  -- BitRateMax
     []
 
+-- Dsa
+abbrev pub dsa_rows : List (ℕ × Shape)
+dsa_rows =
+    (1, Le32) ∷  -- Conduit
+    []
+
+-- Hsr
+abbrev pub hsr_rows : List (ℕ × Shape)
+hsr_rows =
+    (1, Le32) ∷  -- Port1
+    (2, Le32) ∷  -- Port2
+    (3, U8) ∷  -- MulticastSpec
+    (4, Mac) ∷  -- SupervisionAddr
+    (5, Le16) ∷  -- SeqNr
+    (6, U8) ∷  -- Version
+    (7, U8) ∷  -- Protocol
+    (8, Le32) ∷  -- Interlink
+    []
+
+-- Tun
+abbrev pub tun_rows : List (ℕ × Shape)
+tun_rows =
+    (1, Le32) ∷  -- Owner
+    (2, Le32) ∷  -- Group
+    (3, U8) ∷  -- Type
+    (4, Truth) ∷  -- Pi
+    (5, Truth) ∷  -- VnetHdr
+    (6, Truth) ∷  -- Persist
+    (7, Truth) ∷  -- MultiQueue
+    (8, Le32) ∷  -- NumQueues
+    (9, Le32) ∷  -- NumDisabledQueues
+    []
+
 -- VlanQosMapping
 abbrev pub vlan_qos_mapping_rows : List (ℕ × Shape)
 vlan_qos_mapping_rows =
@@ -103,6 +137,9 @@ abbrev pub typed_rows_of : Family → List (ℕ × Shape)
 typed_rows_of family.Bond = bond_rows
 typed_rows_of family.Vlan = vlan_rows
 typed_rows_of family.Can = can_rows
+typed_rows_of family.Dsa = dsa_rows
+typed_rows_of family.Hsr = hsr_rows
+typed_rows_of family.Tun = tun_rows
 typed_rows_of family.VlanQosMapping = vlan_qos_mapping_rows
 typed_rows_of f = rows_of f
 

@@ -5,6 +5,9 @@ ghost use Rattle.std.specs.Prelude.{◌≡◌, ◌↔◌, ℕ, false, true, [], 
 ghost use Rattle.linkinfo_typed.specs.Conditions.{
   bond_conditions,
   can_conditions,
+  dsa_conditions,
+  hsr_conditions,
+  tun_conditions,
   vlan_conditions,
   vlan_qos_mapping_conditions,
 };
@@ -34,7 +37,10 @@ ghost use Rattle.nla_frame.specs.declared.error.Family.TheVariants as family;
 // Begin: written by tables/generate from tables/families (types).
 use crate::bond::InfoBond;
 use crate::can::InfoCan;
+use crate::dsa::InfoDsa;
+use crate::hsr::InfoHsr;
 use crate::qos::VlanQosMapping;
+use crate::tun::InfoTun;
 use crate::vlan::InfoVlan;
 // End: written by tables/generate.
 
@@ -46,7 +52,10 @@ pub fn named()
     // Begin: written by tables/generate from tables/families (named).
     ensures bond { ⟦<InfoBond as LinkFamily>⟧.FAMILY ≡ family.Bond }
     ensures can { ⟦<InfoCan as LinkFamily>⟧.FAMILY ≡ family.Can }
+    ensures dsa { ⟦<InfoDsa as LinkFamily>⟧.FAMILY ≡ family.Dsa }
+    ensures hsr { ⟦<InfoHsr as LinkFamily>⟧.FAMILY ≡ family.Hsr }
     ensures vlan_qos_mapping { ⟦<VlanQosMapping as LinkFamily>⟧.FAMILY ≡ family.VlanQosMapping }
+    ensures tun { ⟦<InfoTun as LinkFamily>⟧.FAMILY ≡ family.Tun }
     ensures vlan { ⟦<InfoVlan as LinkFamily>⟧.FAMILY ≡ family.Vlan }
 // End: written by tables/generate.
 {}
@@ -59,9 +68,15 @@ pub fn tabled()
         ⟦<InfoBond as LinkFamily>⟧.lookup tt n ≡ lookup_in (typed_shape_of family.Bond n) }
     ensures can { (n : ℕ) →
         ⟦<InfoCan as LinkFamily>⟧.lookup tt n ≡ lookup_in (typed_shape_of family.Can n) }
+    ensures dsa { (n : ℕ) →
+        ⟦<InfoDsa as LinkFamily>⟧.lookup tt n ≡ lookup_in (typed_shape_of family.Dsa n) }
+    ensures hsr { (n : ℕ) →
+        ⟦<InfoHsr as LinkFamily>⟧.lookup tt n ≡ lookup_in (typed_shape_of family.Hsr n) }
     ensures vlan_qos_mapping { (n : ℕ) →
         ⟦<VlanQosMapping as LinkFamily>⟧.lookup tt n
         ≡ lookup_in (typed_shape_of family.VlanQosMapping n) }
+    ensures tun { (n : ℕ) →
+        ⟦<InfoTun as LinkFamily>⟧.lookup tt n ≡ lookup_in (typed_shape_of family.Tun n) }
     ensures vlan { (n : ℕ) →
         ⟦<InfoVlan as LinkFamily>⟧.lookup tt n ≡ lookup_in (typed_shape_of family.Vlan n) }
 // End: written by tables/generate.
@@ -74,8 +89,11 @@ pub fn well_formed()
     // Begin: written by tables/generate from tables/families (well_formed).
     ensures bond { (x : InfoBond) → ⟦<InfoBond as LinkFamily>⟧.well tt x ↔ bond_conditions x }
     ensures can { (x : InfoCan) → ⟦<InfoCan as LinkFamily>⟧.well tt x ↔ can_conditions x }
+    ensures dsa { (x : InfoDsa) → ⟦<InfoDsa as LinkFamily>⟧.well tt x ↔ dsa_conditions x }
+    ensures hsr { (x : InfoHsr) → ⟦<InfoHsr as LinkFamily>⟧.well tt x ↔ hsr_conditions x }
     ensures vlan_qos_mapping { (x : VlanQosMapping) →
         ⟦<VlanQosMapping as LinkFamily>⟧.well tt x ↔ vlan_qos_mapping_conditions x }
+    ensures tun { (x : InfoTun) → ⟦<InfoTun as LinkFamily>⟧.well tt x ↔ tun_conditions x }
     ensures vlan { (x : InfoVlan) → ⟦<InfoVlan as LinkFamily>⟧.well tt x ↔ vlan_conditions x }
 // End: written by tables/generate.
 {}
@@ -86,7 +104,10 @@ pub fn families_inside()
     // Begin: written by tables/generate from tables/families (inside).
     ensures bond { ⟦<InfoBond as LinkFamily>⟧.inside ≡ [] }
     ensures can { ⟦<InfoCan as LinkFamily>⟧.inside ≡ [] }
+    ensures dsa { ⟦<InfoDsa as LinkFamily>⟧.inside ≡ [] }
+    ensures hsr { ⟦<InfoHsr as LinkFamily>⟧.inside ≡ [] }
     ensures vlan_qos_mapping { ⟦<VlanQosMapping as LinkFamily>⟧.inside ≡ [] }
+    ensures tun { ⟦<InfoTun as LinkFamily>⟧.inside ≡ [] }
     ensures vlan { ⟦<InfoVlan as LinkFamily>⟧.inside
         ≡ family.VlanQosMapping ∷ family.VlanQosMapping ∷ [] }
 // End: written by tables/generate.
@@ -98,7 +119,10 @@ pub fn sets()
     // Begin: written by tables/generate from tables/families (sets).
     ensures bond { ⟦<InfoBond as LinkFamily>⟧.IS_SET ≡ false }
     ensures can { ⟦<InfoCan as LinkFamily>⟧.IS_SET ≡ false }
+    ensures dsa { ⟦<InfoDsa as LinkFamily>⟧.IS_SET ≡ false }
+    ensures hsr { ⟦<InfoHsr as LinkFamily>⟧.IS_SET ≡ false }
     ensures vlan_qos_mapping { ⟦<VlanQosMapping as LinkFamily>⟧.IS_SET ≡ true }
+    ensures tun { ⟦<InfoTun as LinkFamily>⟧.IS_SET ≡ false }
     ensures vlan { ⟦<InfoVlan as LinkFamily>⟧.IS_SET ≡ false }
 // End: written by tables/generate.
 {}

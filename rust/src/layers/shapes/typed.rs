@@ -21,6 +21,9 @@ pub fn typed_shape(family: Family, kind: u16) -> Option<Shape> {
         Family::Bond => bond(kind),
         Family::Vlan => vlan(kind),
         Family::Can => can(kind),
+        Family::Dsa => dsa(kind),
+        Family::Hsr => hsr(kind),
+        Family::Tun => tun(kind),
         Family::VlanQosMapping => vlan_qos_mapping(kind),
         _ => table_shape(family, kind),
     }
@@ -100,6 +103,48 @@ fn can(kind: u16) -> Option<Shape> {
         7 => Some(Shape::Le32),
         11 => Some(Shape::Le16),
         15 => Some(Shape::Le32),
+        _ => None,
+    }
+}
+
+/// `IFLA_DSA_*`.
+#[inline(always)]
+fn dsa(kind: u16) -> Option<Shape> {
+    match kind {
+        1 => Some(Shape::Le32),
+        _ => None,
+    }
+}
+
+/// `IFLA_HSR_*`.
+#[inline(always)]
+fn hsr(kind: u16) -> Option<Shape> {
+    match kind {
+        1 => Some(Shape::Le32),
+        2 => Some(Shape::Le32),
+        3 => Some(Shape::U8),
+        4 => Some(Shape::Mac),
+        5 => Some(Shape::Le16),
+        6 => Some(Shape::U8),
+        7 => Some(Shape::U8),
+        8 => Some(Shape::Le32),
+        _ => None,
+    }
+}
+
+/// `IFLA_TUN_*`.
+#[inline(always)]
+fn tun(kind: u16) -> Option<Shape> {
+    match kind {
+        1 => Some(Shape::Le32),
+        2 => Some(Shape::Le32),
+        3 => Some(Shape::U8),
+        4 => Some(Shape::Truth),
+        5 => Some(Shape::Truth),
+        6 => Some(Shape::Truth),
+        7 => Some(Shape::Truth),
+        8 => Some(Shape::Le32),
+        9 => Some(Shape::Le32),
         _ => None,
     }
 }
