@@ -471,6 +471,9 @@ fn same_uncounted<P: DataLayer>(a: &[u8], b: &[u8]) -> Result<bool, DecodeError>
 /// made for it are rarely equivalent, since the kernel adds attributes: compare these by
 /// `first_unmet_of`.
 pub fn same_of<P: DataLayer>(a: &[u8], b: &[u8]) -> Result<bool, DecodeError>
+where
+    P::Data: ExactEq + Eq,
+    P::PortData: ExactEq + Eq,
     ensures answer { result ≡ same_answer (reading P.families a.now)
         (reading P.families b.now) (alike_strings P.families a.now b.now) }
     ensures no_memory { result ≢ Err memory_error }

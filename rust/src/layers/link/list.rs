@@ -311,7 +311,11 @@ fn same_uncounted<P: DataLayer>(a: &[u8], b: &[u8]) -> Result<bool, DecodeError>
 /// [`first_unmet_of`].
 ///
 /// [`first_unmet_of`]: crate::layers::link::first_unmet_of
-pub fn same_of<P: DataLayer>(a: &[u8], b: &[u8]) -> Result<bool, DecodeError> {
+pub fn same_of<P: DataLayer>(a: &[u8], b: &[u8]) -> Result<bool, DecodeError>
+where
+    P::Data: ExactEq + Eq,
+    P::PortData: ExactEq + Eq,
+{
     same_uncounted::<P>(a, b)
 }
 
