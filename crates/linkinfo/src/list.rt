@@ -166,10 +166,12 @@ where
 {
     ghost use Rattle.std.proofs.Common.{rules};
     ghost use Rattle.std.specs.Cmp.Rules.{comparing};
+    ghost use Rattle.std.specs.Ordering.{on};
+    ghost use Rattle.linkinfo.specs.contracts.link_info.LinkInfoOfPartialEq.TheImpl.Laws as link;
 
-    ghost eq = { λ a b. ⟦<Nlas<LinkInfoOf<P>> as PartialEq>⟧.eq a.0 b.0 };
+    ghost eq = { on (λ list. list.0) ⟦<Nlas<LinkInfoOf<P>> as PartialEq>⟧.eq };
 
-    ghost laws = { Prim.search (comparing, rules) };
+    ghost laws = { Prim.search (comparing, rules, link.laws-law) };
 
     fn eq(&self, other: &VecLinkInfoOf<P>) -> bool {
         self.0 == other.0
@@ -183,8 +185,9 @@ where
 {
     ghost use Rattle.std.proofs.Common.{rules};
     ghost use Rattle.std.specs.Cmp.Rules.{comparing};
+    ghost use Rattle.linkinfo.specs.contracts.link_info.LinkInfoOfEq.TheImpl.Laws as link;
 
-    ghost laws = { Prim.search (comparing, rules) };
+    ghost laws = { Prim.search (comparing, rules, link.laws-law) };
 }
 
 impl<P: DataLayer + Debug> Debug for VecLinkInfoOf<P>
