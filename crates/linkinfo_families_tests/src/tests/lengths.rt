@@ -46,6 +46,23 @@ pub(super) fn has_lists<F: LinkFamily<Context = ()>>(rt: &impl Abort, kind: u8) 
     }
 }
 
+/// Asserts that zeros of each length up to 70 are the payload of a type only if their number is a
+/// multiple of the width; any other length is rejected with the cause Length.
+pub(super) fn has_multiples<F: LinkFamily<Context = ()>>(rt: &impl Abort, kind: u8, width: u8) {
+    assert!(rt; width > 0);
+    let mut buffer = [0; 78];
+    for len in 0..=70 {
+        let end = with_zeros(rt, kind, len, &mut buffer);
+        let wanted = if len % width == 0 {
+            Ok(())
+        } else {
+            Err(error(F::FAMILY, u16::from(kind), Cause::Length))
+        };
+        let bytes = buffer.get(..end).expect(rt, "an attribute");
+        checks_list::<F>(rt, (), bytes, (wanted, 1));
+    }
+}
+
 /// Asserts that zeros of each length up to 66, as the one attribute of a list of addresses, are an
 /// address only if there are as many as it has; any other length is the error of the list, with the
 /// cause Length.
