@@ -12,9 +12,9 @@ use std::str::FromStr;
 /// (include/uapi/linux/if_link.h).
 #[derive(Clone, Copy, Debug, PartialEq, Eq)]
 pub enum HsrProtocol {
-    /// ``: High-availability Seamless Redundancy, a ring.
+    /// `HSR_PROTOCOL_HSR`: High-availability Seamless Redundancy, a ring.
     Hsr,
-    /// ``: Parallel Redundancy Protocol, two networks.
+    /// `HSR_PROTOCOL_PRP`: Parallel Redundancy Protocol, two networks.
     Prp,
     /// Any number without a name.
     Other(u8),

@@ -11,9 +11,9 @@ use std::str::FromStr;
 /// What a `tun` device carries: `IFLA_TUN_TYPE`, one byte (include/uapi/linux/if_tun.h).
 #[derive(Clone, Copy, Debug, PartialEq, Eq)]
 pub enum TunType {
-    /// ``: IP packets (layer 3).
+    /// `IFF_TUN`: IP packets (layer 3).
     Tun,
-    /// ``: Ethernet frames (layer 2).
+    /// `IFF_TAP`: Ethernet frames (layer 2).
     Tap,
     /// Any number without a name.
     Other(u8),

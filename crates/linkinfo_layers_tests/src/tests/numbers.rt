@@ -2,9 +2,10 @@
 
 use super::assertions::assert_is;
 use linkinfo_numbers::{
-    AmtMode, ErSpanDir, EthernetProtocol, GeneveDf, GreEncapType, GtpRole, IpProtocol, IpVlanMode,
-    IpoibMode, MacSecCipherId, MacSecOffload, MacSecValidate, MacVlanMacAddressMode, MacVlanMode,
-    NetkitMode, NetkitPolicy, NetkitScrub, TunnelEncapType, VlanProtocol, VxlanDf, laws,
+    AmtMode, ErSpanDir, EthernetProtocol, GeneveDf, GreEncapType, GtpRole, HsrProtocol, IpProtocol,
+    IpVlanMode, IpoibMode, MacSecCipherId, MacSecOffload, MacSecValidate, MacVlanMacAddressMode,
+    MacVlanMode, NetkitMode, NetkitPolicy, NetkitScrub, TunType, TunnelEncapType, VlanProtocol,
+    VxlanDf, laws,
 };
 use std::fmt::Debug;
 use std::process::Abort;
@@ -193,6 +194,21 @@ const NETKIT_POLICIES: &[(u32, NetkitPolicy)] = &[
     (u32::MAX, NetkitPolicy::Other(u32::MAX)),
 ];
 
+const TUN_TYPES: &[(u8, TunType)] = &[
+    (0, TunType::Other(0)),
+    (1, TunType::Tun),
+    (2, TunType::Tap),
+    (3, TunType::Other(3)),
+    (u8::MAX, TunType::Other(u8::MAX)),
+];
+
+const HSR_PROTOCOLS: &[(u8, HsrProtocol)] = &[
+    (0, HsrProtocol::Hsr),
+    (1, HsrProtocol::Prp),
+    (2, HsrProtocol::Other(2)),
+    (u8::MAX, HsrProtocol::Other(u8::MAX)),
+];
+
 #[test]
 fn tunnel_numbers(rt: HostRuntime) {
     laws::value_round_trip();
@@ -218,6 +234,8 @@ fn device_numbers(rt: HostRuntime) {
     check_both_ways(&rt, MAC_SEC_OFFLOADS);
     check_both_ways(&rt, NETKIT_MODES);
     check_both_ways(&rt, NETKIT_POLICIES);
+    check_both_ways(&rt, TUN_TYPES);
+    check_both_ways(&rt, HSR_PROTOCOLS);
 }
 
 /// Numbers of types with a conversion from a reference.

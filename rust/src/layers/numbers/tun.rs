@@ -13,9 +13,9 @@ use core::str::FromStr;
 /// What a `tun` device carries: `IFLA_TUN_TYPE`, one byte (include/uapi/linux/if_tun.h).
 #[derive(Clone, Copy, Debug, PartialEq, Eq, Hash, PartialOrd, Ord)]
 pub enum TunType {
-    /// ``: IP packets (layer 3).
+    /// `IFF_TUN`: IP packets (layer 3).
     Tun,
-    /// ``: Ethernet frames (layer 2).
+    /// `IFF_TAP`: Ethernet frames (layer 2).
     Tap,
     /// Any number without a name.
     Other(u8),
