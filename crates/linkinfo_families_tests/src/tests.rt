@@ -30,6 +30,7 @@ mod rows;
 mod table;
 mod typed_bond;
 mod typed_can;
+mod typed_devices;
 mod typed_vlan;
 mod vlan;
 mod vti;

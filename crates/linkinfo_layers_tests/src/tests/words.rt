@@ -2,8 +2,8 @@
 
 use super::assertions::{assert_displayed, assert_is, decode_error};
 use linkinfo_numbers::{
-    AmtMode, ErSpanDir, GeneveDf, GreEncapType, GtpRole, IpVlanMode, MacVlanMode, NetkitMode,
-    NetkitPolicy, NetkitScrub, TunnelEncapType, VlanProtocol, VxlanDf, laws,
+    AmtMode, ErSpanDir, GeneveDf, GreEncapType, GtpRole, HsrProtocol, IpVlanMode, MacVlanMode,
+    NetkitMode, NetkitPolicy, NetkitScrub, TunType, TunnelEncapType, VlanProtocol, VxlanDf, laws,
 };
 use nla_frame::{Cause, DecodeError, Family};
 use std::alloc::Global;
@@ -78,6 +78,10 @@ const VLAN_PROTOCOL_WORDS: &[(VlanProtocol, &str)] = &[
     (VlanProtocol::Ieee8021Ad, "802.1ad"),
 ];
 
+const TUN_WORDS: &[(TunType, &str)] = &[(TunType::Tun, "tun"), (TunType::Tap, "tap")];
+
+const HSR_WORDS: &[(HsrProtocol, &str)] = &[(HsrProtocol::Hsr, "hsr"), (HsrProtocol::Prp, "prp")];
+
 #[test]
 fn words(rt: HostRuntime) {
     let alloc = rt.alloc();
@@ -90,6 +94,8 @@ fn words(rt: HostRuntime) {
     check_words(&rt, alloc, Family::Netkit, NETKIT_POLICY_WORDS);
     check_words(&rt, alloc, Family::Netkit, NETKIT_SCRUB_WORDS);
     check_words(&rt, alloc, Family::Vlan, VLAN_PROTOCOL_WORDS);
+    check_words(&rt, alloc, Family::Tun, TUN_WORDS);
+    check_words(&rt, alloc, Family::Hsr, HSR_WORDS);
     let rejected = Err(decode_error(Family::Netkit, 0, Cause::Word));
     assert_is(&rt, "l3s", NetkitMode::from_str("l3s"), rejected);
 }
@@ -155,4 +161,6 @@ fn texts(rt: HostRuntime) {
     check_texts(&rt, alloc, &[(MacVlanMode::Other(3), "3")]);
     check_texts(&rt, alloc, &[(NetkitMode::Other(2), "2")]);
     check_texts(&rt, alloc, &[(VlanProtocol::Other(0x8847), "34887")]);
+    check_texts(&rt, alloc, &[(TunType::Other(3), "3")]);
+    check_texts(&rt, alloc, &[(HsrProtocol::Other(2), "2")]);
 }

@@ -5,8 +5,8 @@
 use super::assertions::{assert_displayed, assert_is, decode_error};
 use linkinfo::layers::nla_frame::{Cause, DecodeError, Family};
 use linkinfo::layers::numbers::{
-    AmtMode, ErSpanDir, GeneveDf, GreEncapType, GtpRole, IpVlanMode, MacVlanMode, NetkitMode,
-    NetkitPolicy, NetkitScrub, TunnelEncapType, VlanProtocol, VxlanDf,
+    AmtMode, ErSpanDir, GeneveDf, GreEncapType, GtpRole, HsrProtocol, IpVlanMode, MacVlanMode,
+    NetkitMode, NetkitPolicy, NetkitScrub, TunType, TunnelEncapType, VlanProtocol, VxlanDf,
 };
 use std::fmt::{Debug, Display};
 use std::str::FromStr;
@@ -78,6 +78,10 @@ const VLAN_PROTOCOL_WORDS: &[(VlanProtocol, &str)] = &[
     (VlanProtocol::Ieee8021Ad, "802.1ad"),
 ];
 
+const TUN_WORDS: &[(TunType, &str)] = &[(TunType::Tun, "tun"), (TunType::Tap, "tap")];
+
+const HSR_WORDS: &[(HsrProtocol, &str)] = &[(HsrProtocol::Hsr, "hsr"), (HsrProtocol::Prp, "prp")];
+
 #[test]
 fn words() {
     check_words(Family::Amt, AMT_WORDS);
@@ -88,6 +92,8 @@ fn words() {
     check_words(Family::Netkit, NETKIT_POLICY_WORDS);
     check_words(Family::Netkit, NETKIT_SCRUB_WORDS);
     check_words(Family::Vlan, VLAN_PROTOCOL_WORDS);
+    check_words(Family::Tun, TUN_WORDS);
+    check_words(Family::Hsr, HSR_WORDS);
     let rejected = Err(decode_error(Family::Netkit, 0, Cause::Word));
     assert_is("l3s", NetkitMode::from_str("l3s"), rejected);
 }
@@ -152,4 +158,6 @@ fn texts() {
     check_texts(&[(MacVlanMode::Other(3), "3")]);
     check_texts(&[(NetkitMode::Other(2), "2")]);
     check_texts(&[(VlanProtocol::Other(0x8847), "34887")]);
+    check_texts(&[(TunType::Other(3), "3")]);
+    check_texts(&[(HsrProtocol::Other(2), "2")]);
 }
