@@ -13,7 +13,7 @@ returns-then-owns g c =
     let b = c.args.b.now in
     let owned = g.A.CustomRows.owned in
     let at : owned (masked a.kind) ≡ true =
-        ap owned (sym c.kind.ensures) ∙ sym c.owns.ensures ∙ c.if-owns.true in
+    ap owned (sym c.kind.ensures) ∙ sym c.owns.ensures ∙ c.if-owns.true in
     let same = c.same.ensures.same in
     record {
       same = same;
@@ -24,9 +24,9 @@ returns-then-owns g c =
             arith,
             counted,
             cond-true (owned (masked a.kind)) (g.A.CustomRows.headers a)
-            (g.B.CustomRows.headers a) at,
+                (g.B.CustomRows.headers a) at,
             cond-true (owned (masked b.kind)) (g.A.CustomRows.headers b)
-            (g.B.CustomRows.headers b) (ap owned types ∙ at),
+                (g.B.CustomRows.headers b) (ap owned types ∙ at),
           )) c.same.ensures.counted;
       rises = c.same.ensures.rises;
       quarter = c.same.ensures.quarter;
@@ -38,7 +38,7 @@ returns-else-owns g c =
     let b = c.args.b.now in
     let owned = g.A.CustomRows.owned in
     let other : owned (masked a.kind) ≡ false =
-        ap owned (sym c.kind.ensures) ∙ sym c.owns.ensures ∙ c.if-owns.false in
+    ap owned (sym c.kind.ensures) ∙ sym c.owns.ensures ∙ c.if-owns.false in
     let step = c.same-else-owns in
     let same = step.ensures.same in
     record {
@@ -50,9 +50,9 @@ returns-else-owns g c =
             arith,
             counted,
             cond-false (owned (masked a.kind)) (g.A.CustomRows.headers a)
-            (g.B.CustomRows.headers a) other,
+                (g.B.CustomRows.headers a) other,
             cond-false (owned (masked b.kind)) (g.A.CustomRows.headers b)
-            (g.B.CustomRows.headers b) (ap owned types ∙ other),
+                (g.B.CustomRows.headers b) (ap owned types ∙ other),
           )) step.ensures.counted;
       rises = step.ensures.rises;
       quarter = step.ensures.quarter;
