@@ -2,7 +2,7 @@
 import re
 
 from .families import NEST
-from .text import CALL, MOST, broken, fill, laid, pairs, snake, spelled
+from .text import CALL, MOST, broken, constructor, fill, laid, pairs, snake, spelled
 
 LISTED = 2      # up to so many rows of payloads are a list; more are a tree of such lists
 SEARCHED = 10   # up to so many variants, `ExactEq` is found by a search
@@ -52,9 +52,9 @@ def stored(row, marks, seen):
         read = f"{result(call)}.ensures.{clause}"
     if marks["set"]:
         bits = result("from_bits_retain")
-        made = f"(ap (λ n. {row.variant} ({marks['value']} n)) ({bits}.ensures tt))"
+        made = f"(ap (λ n. {constructor(row.variant)} ({marks['value']} n)) ({bits}.ensures tt))"
     elif row.value:
-        made = f"(ap (λ x. {row.variant} x) {result('from')}.ensures)"
+        made = f"(ap (λ x. {constructor(row.variant)} x) {result('from')}.ensures)"
     return {"read": read, "made": made}
 
 
@@ -103,7 +103,7 @@ def of_row(row):
         spelled(row.shape),
         "how": f" or {row.variants[0]}" if row.two else HOW.get(row.made, "").replace("‹›", field),
         "doc": row.doc(len(row.variants) - 1), "first_doc": row.doc(0), "empty": row.variants[0],
-        "either": either, "short": either.split("_")[0],
+        "constructor": constructor(row.variant), "either": either, "short": either.split("_")[0],
         "value": row.value and snake(row.value.name), "word": row.value and row.value.in_specs,
         "bits": str(bits), "most": "256" if bits == 8 else f"(2 ^ {bits})", "bare": bare,
         "set": row.made == "flags", "pair": row.made == "pair", "sets": row.made == "sets",
@@ -234,7 +234,7 @@ def chain(family, inner):
         name = f"{its}_from_{row['either']}"
         text += (f"abbrev pub {name} : ℕ → FamilyRow {family.type}\n{name} n =\n    with_row "
                  f"{row['number']} {row['term']} {row['flag']} {row['codec']}\n"
-                 f"    (λ x. {row['variant']} x) {rest} n\n\n")
+                 f"    (λ x. {row['constructor']} x) {rest} n\n\n")
         rest = name
     return text.rstrip("\n") + "\n" * bool(text)
 
@@ -268,7 +268,7 @@ def custom(family, inner):
         "plain_rows": f"{its}_plain" if inner else f"{its}_rows",
         "all_rows": f"{its}_rows" if inner else f"table_row {its}_rows",
         "suits": f"({its}_suits c.args.decoded c.requires)" if inner else "c.requires",
-        "own_variants": "".join(f"{row['variant']}, " for row in inner),
+        "own_variants": "".join(f"{row['constructor']}, " for row in inner),
         "held": ", ".join(f"is_{row['either']}" for row in inner),
         "custom": types_tree(inner, " " * 4), "tree_import": "Both, " * bool(halves(inner)),
         "owned": owned(inner), "suffixes": ", ".join(suffixes), "chain": chain(family, inner),
@@ -307,7 +307,7 @@ def of_family(family):
         "shapes": ", ".join(shapes), "value_names": ", ".join(sorted(used - {""})),
         "reads": reads(family, set(shapes)), "numbers": numbers(family),
         "keeps": keeps([row for row in rows if row["table"]]),
-        "all_variants": ", ".join(variants), "searched": not is_listed, "listed": is_listed,
+        "all_constructors": ", ".join(map(constructor, variants)), "searched": not is_listed, "listed": is_listed,
         "derived": ", ".join(["derived_decides", *["no_field"] * bool(
             either or "no_field" in entries), "one_field", *["two_fields"] * ("pair" in entries)]),
         "has_truth": is_listed and "truth" in entries, "values": rows,

@@ -20,6 +20,11 @@ def spelled(name):
     return re.sub(r"(?=[A-Z])", "_", name).lstrip("_").lower()
 
 
+def constructor(name):
+    """A name of a variant as the logic has it, where `Type` is a word of the language."""
+    return f"«{name}»" if name == "Type" else name
+
+
 def fill(words, start="", most=MOST):
     """Lines of words, as many as fit on each; each line begins with `start`."""
     lines, line = [], start

@@ -14,7 +14,7 @@ use Rattle.linkinfo_typed.specs.declared.tun.InfoTun.{InfoTun}
 use Rattle.linkinfo_typed.specs.declared.tun.InfoTun.TheVariants.{
   Owner,
   Group,
-  Type,
+  «Type»,
   Pi,
   VnetHdr,
   Persist,
@@ -28,7 +28,7 @@ abbrev pub tun_rows : List (PlainRow InfoTun)
 tun_rows =
     row 1 Le32 (λ n. Owner n) ∷
     row 2 Le32 (λ n. Group n) ∷
-    row 3 U8 (λ n. Type (tun_type n)) ∷
+    row 3 U8 (λ n. «Type» (tun_type n)) ∷
     row 4 Truth (λ b. Pi b) ∷
     row 5 Truth (λ b. VnetHdr b) ∷
     row 6 Truth (λ b. Persist b) ∷
@@ -40,7 +40,7 @@ tun_rows =
 abbrev pub tun_attribute : InfoTun → Attribute
 tun_attribute (Owner n) = typed 1 Le32 n
 tun_attribute (Group n) = typed 2 Le32 n
-tun_attribute (Type device) = typed 3 U8 (tun_type_number device)
+tun_attribute («Type» device) = typed 3 U8 (tun_type_number device)
 tun_attribute (Pi b) = typed 4 Truth b
 tun_attribute (VnetHdr b) = typed 5 Truth b
 tun_attribute (Persist b) = typed 6 Truth b

@@ -15,7 +15,7 @@ use Rattle.linkinfo_typed.specs.declared.tun.InfoTun.TheVariants as tun
 abbrev pub tun_conditions : InfoTun → Type 0
 tun_conditions (tun.Owner n) = n < 2 ^ 32
 tun_conditions (tun.Group n) = n < 2 ^ 32
-tun_conditions (tun.Type x) = IsNumber tun_type_table 256 x
+tun_conditions (tun.«Type» x) = IsNumber tun_type_table 256 x
 tun_conditions (tun.NumQueues n) = n < 2 ^ 32
 tun_conditions (tun.NumDisabledQueues n) = n < 2 ^ 32
 tun_conditions (tun.Other d) = IsUnknown tun_rows d
@@ -29,8 +29,8 @@ pub tun_stated : (x : InfoTun) → WellFormed (λ d. tun.Other d) tun_attribute
     (λ n. row_of (table_row tun_rows n)) x ↔ tun_conditions x
 unfolding WellFormed
 tun_stated = elim [
-  | tun.Type x ↦ number_label tun_type_table_holds 256
-      (λ y. tun.Type y) tun_conditions (λ _ is. is) (λ _ is. is) x
+  | tun.«Type» x ↦ number_label tun_type_table_holds 256
+      (λ y. tun.«Type» y) tun_conditions (λ _ is. is) (λ _ is. is) x
   | tun.Other d ↦ unknown_label (λ z. tun.Other z) tun_attribute tun_rows tun_is_other
       (λ _. refl) (λ _. refl) (are_typed tun_is_other tun_rows refl) d
   | _ ↦ (λ w. subst tun_conditions w.2 w.1, λ h. (_, h, refl))

@@ -4,7 +4,7 @@
 use Rattle.std.proofs.Common.{ap, rules, refl}
 use Rattle.linkinfo_table.specs.FamilyRowLaws.{no_row_read, row_stored}
 use Rattle.linkinfo_table.specs.FamilyRows.{table_row}
-use Rattle.linkinfo_typed.specs.declared.tun.InfoTun.TheVariants.{Type, Other}
+use Rattle.linkinfo_typed.specs.declared.tun.InfoTun.TheVariants.{«Type», Other}
 use Rattle.linkinfo_typed.specs.Tun.{tun_rows}
 use Rattle.linkinfo_typed.proofs.tun.InfoTunRowFamily.store_decoded.Goals as goal
 
@@ -34,7 +34,7 @@ pub returns-in-3 : goal.returns-in-3
 returns-in-3 g c =
     row_stored (g.P.Slot.with c.args.slot.now) (λ d. Other d) _ _ _ (λ n. table_row tun_rows n) refl
     c.in-Typed-store_by_rows.is c.in-3.is c.requires c.store_by_rows-u8_or_zero.ensures.0
-    (ap (λ x. Type x) c.store_by_rows-from.ensures) c.store_by_rows-store-in-3.ensures
+    (ap (λ x. «Type» x) c.store_by_rows-from.ensures) c.store_by_rows-store-in-3.ensures
 
 pub returns-in-4 : goal.returns-in-4
 returns-in-4 g c =
