@@ -307,7 +307,8 @@ def of_family(family):
         "shapes": ", ".join(shapes), "value_names": ", ".join(sorted(used - {""})),
         "reads": reads(family, set(shapes)), "numbers": numbers(family),
         "keeps": keeps([row for row in rows if row["table"]]),
-        "all_constructors": ", ".join(map(constructor, variants)), "searched": not is_listed, "listed": is_listed,
+        "all_constructors": ", ".join(map(constructor, variants)),
+        "searched": not is_listed, "listed": is_listed,
         "derived": ", ".join(["derived_decides", *["no_field"] * bool(
             either or "no_field" in entries), "one_field", *["two_fields"] * ("pair" in entries)]),
         "has_truth": is_listed and "truth" in entries, "values": rows,
