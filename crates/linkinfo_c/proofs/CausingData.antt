@@ -65,7 +65,7 @@ use Rattle.linkinfo_peers.specs.Batadv.{bat_adv_rows}
 use Rattle.linkinfo_peers.specs.Wwan.{wwan_rows}
 -- End: written by tables/generate.
 use Rattle.linkinfo_data.specs.Layered.{types_of}
-use Rattle.linkinfo_data.specs.BytesLayer.{bytes_families}
+use Rattle.linkinfo_data.specs.BytesLayer.{bytes_families, bytes_layer}
 use Rattle.linkinfo_peers.specs.PeerMembers.{netkit_members, veth_members, vxcan_members}
 use Rattle.linkinfo_data.specs.Data.{data_of, family_of}
 use Rattle.linkinfo_data.specs.DeviceData.{devices_data_of}
@@ -109,6 +109,7 @@ use Rattle.linkinfo.specs.Unmet.{unmet_answer}
 use Rattle.linkinfo.specs.Walks.{item_or_error, walk_items}
 use Rattle.linkinfo.specs.Strings.{next_kinds, reading}
 use Rattle.linkinfo.specs.Layered.{LinkOf}
+use Rattle.linkinfo_data.specs.DataFamilies.{data_types}
 use Rattle.linkinfo_data.specs.PeerLayer.{peer_types}
 use Rattle.linkinfo.specs.declared.link_info.LinkInfoOf.TheVariants as link
 use Rattle.linkinfo.specs.declared.xstats.LinkXstats.TheVariants as xstats
@@ -388,7 +389,7 @@ name_errors n label p =
     (own_errors (means Name p) (shape_causes Name p))
 
 role_errors : (r : Role) (a : Attribute) →
-    EachError (row_meaning family.LinkInfo link_other (link_row bytes_families r) a)
+    EachError (row_meaning family.LinkInfo link_other (link_row bytes_layer r) a)
 role_errors role.Kind a = name_errors (masked a.kind) _ a.value
 role_errors (role.Data t) a =
     labelled_errors family.LinkInfo (masked a.kind) (λ d. link.Data d)
@@ -406,18 +407,18 @@ role_errors (role.PortData t) a =
     (ports_errors (port_family_of t) a.value))
 role_errors role.Misplaced a = λ e k.
     subst IsReturned (ap (λ (d : DecodeError). d.cause)
-    (bad_same {X = LinkOf (peer_types Bytes)} _ e k))
+    (bad_same {X = LinkOf (data_types (peer_types Bytes))} _ e k))
     (let order : IsReturned cause.Order = tt in order)
 role_errors role.Unknown a = λ e k. absurd cc
 
-link_errors : (t : CurrentKinds) (a : Attribute) → EachError (link_meaning bytes_families t a)
+link_errors : (t : CurrentKinds) (a : Attribute) → EachError (link_meaning bytes_layer t a)
 unfolding meaning_in
 link_errors t a = role_errors (role_of t (masked a.kind)) a
 
-pub reading_errors : (s : List ℕ) → EachError (reading bytes_families s)
+pub reading_errors : (s : List ℕ) → EachError (reading bytes_layer s)
 unfolding reading
 reading_errors s =
-    list_errors_under (link_meaning bytes_families) next_kinds link_errors no_kinds (nla_items s)
+    list_errors_under (link_meaning bytes_layer) next_kinds link_errors no_kinds (nla_items s)
 
 -- ---- the numbers of causes
 
