@@ -71,9 +71,10 @@
 //! - **Families of attributes**: one enum for the data of each kind or of several, as
 //!   [`InfoVxlan`], [`InfoGre`] or [`InfoMacSec`]. Those of bond, bridge, vlan and others are kept
 //!   verbatim ([`InfoBond`], [`InfoBridge`], [`InfoVlan`]).
-//! - **Typed vlan attributes**: the module [`typed`] has lists, data and calls by the same names,
-//!   over a layer in which these attributes have types ([`typed::InfoVlan`]). Import the module, or
-//!   some names of it: its names are those of the root. [`LinkLayer`] is for a layer of your own.
+//! - **Typed attributes of dsa, hsr, tun and vlan links**: the module [`typed`] has lists, data and
+//!   calls by the same names, over a layer in which these attributes have types
+//!   ([`typed::InfoVlan`]). Import the module, or some names of it: its names are those of the
+//!   root. [`LinkLayer`] is for a layer of your own.
 //! - **Peers** of veth, vxcan and netkit links: a type that implements [`LinkPeer`], in
 //!   [`VecLinkInfoOf`], [`InfoDataOf`], [`InfoVethOf`] and so on. [`VecLinkInfo`] keeps them as
 //!   [`Bytes`].

@@ -14,6 +14,7 @@ pub mod Pairs
 pub mod Pfcp
 pub mod Places
 pub mod Placing
+pub mod Refining
 pub mod Stated
 pub mod Steps
 pub mod Unmets

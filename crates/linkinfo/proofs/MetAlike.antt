@@ -100,7 +100,7 @@ alike_list l inside one_type each p q e =
 alike_contents : (c : Contents) (n : ℕ) (accepts : Attribute → Bool)
     (alike : Attribute → Attribute → Bool) (a b : Attribute) → IsContent c n accepts alike →
     type_of a ≡ n → alike a b ≡ true → PayloadMeets c (meets alike a b) a b
-alike_contents NoList n accepts alike a b law at e =
+alike_contents (NoList place) n accepts alike a b law at e =
     or_second (bytes_eq a.value b.value) (alike a b) e
 alike_contents (ListOf l inside) n accepts alike a b law at e =
     let pairs =
@@ -121,7 +121,7 @@ payload_alike payload canon law a b e = by_contents payload.contents law.contain
     by_contents : (c : Contents) →
         IsPayloadContent c (λ p. is_ok (payload.means p)) payload.alike →
         ContentsMeet c (meets (λ x y. payload.alike x.value y.value) a b) a b
-    by_contents NoList law =
+    by_contents (NoList place) law =
         or_second (bytes_eq a.value b.value) (payload.alike a.value b.value) e
     by_contents (ListOf l inside) law =
         alike_list l inside law.2

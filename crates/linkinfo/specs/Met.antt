@@ -7,7 +7,7 @@ use Rattle.std.specs.List.{list_any}
 use Rattle.std.specs.Option.{option_map}
 use Rattle.nla_frame.specs.Attribute.{Attribute, masked}
 use Rattle.nla_frame.specs.Payload.{stripped}
-use Rattle.linkinfo_table.specs.Contents.{Contents, ListOf, Listed, NoList}
+use Rattle.linkinfo_table.specs.Contents.{Contents, ListOf, Listed, NoList, single_value}
 use Rattle.linkinfo_table.specs.Last.{attributes_of}
 use Rattle.linkinfo_table.specs.Rows.{row_alike}
 use Rattle.linkinfo_data.specs.Data.{family_of}
@@ -91,7 +91,7 @@ AttributesMeet l Meets have want =
 -- an attribute meets another one of its type: its list does, if it contains one, and else it does
 -- as a whole
 abbrev pub PayloadMeets : Contents → Bool → Attribute → Attribute → Type 0
-PayloadMeets NoList met have want = IsTrue met
+PayloadMeets (NoList place) met have want = IsTrue met
 PayloadMeets (ListOf l inside) met have want =
     Chosen l.is_whole (IsTrue met)
     (AttributesMeet l (λ h w. PayloadMeets (inside (type_of w)) (meets l.alike h w) h w)
@@ -110,7 +110,7 @@ ListMeets l inside have want =
 
 -- data: attribute by attribute where it is a list, and else as a whole
 abbrev pub ContentsMeet : Contents → Bool → Attribute → Attribute → Type 0
-ContentsMeet NoList met have want = IsTrue met
+ContentsMeet (NoList place) met have want = IsTrue met
 ContentsMeet (ListOf l inside) met have want = ListMeets l inside have.value want.value
 
 abbrev pub DataMeets : {X : Type 0} → Payload X → Attribute → Attribute → Type 0
@@ -157,7 +157,7 @@ AttributesStay l want have more =
 
 -- .. of data that is a list
 abbrev pub ContentsStay : Contents → List ℕ → List ℕ → List ℕ → Type 0
-ContentsStay NoList want have more = ⊥
+ContentsStay (NoList place) want have more = ⊥
 ContentsStay (ListOf l inside) want have more = AttributesStay l want have more
 
 -- a list has an attribute of a type
@@ -209,7 +209,7 @@ role_in_list list a = role_of (kinds_named (names_in_list list)) (type_of a)
 abbrev pub contents_in : {L : DataTypes} → DataFamilies L → Role → Contents
 contents_in layer (role.Data tag) = (layer.data_of (family_of tag)).contents
 contents_in layer (role.PortData tag) = (layer.port_data_of (port_family_of tag)).contents
-contents_in layer _ = NoList
+contents_in layer _ = single_value
 
 -- data that is a list of attributes of a family
 abbrev pub is_list : {L : DataTypes} → DataFamilies L → Role → Bool

@@ -52,9 +52,12 @@ ghost use Rattle.linkinfo_numbers.specs.Table.{IsRead};
 ghost use Rattle.linkinfo_numbers.specs.declared.kind.InfoKind.{InfoKind};
 ghost use Rattle.linkinfo_numbers.specs.declared.port_kind.InfoPortKind.{InfoPortKind};
 ghost use Rattle.linkinfo_numbers.specs.declared.tags.KindTag.TheVariants as tag;
+ghost use Rattle.linkinfo_data.specs.BytesLayer.{bytes_layer};
+ghost use Rattle.linkinfo_data.specs.TypedLayer.{typed_layer};
 ghost use Rattle.linkinfo_data.specs.Conditions.{conditions_of, opaque_families, own_conditions};
 ghost use Rattle.linkinfo_data.specs.DataFamilies.{data_families};
 ghost use Rattle.linkinfo_data.specs.Layered.{DataOf, PortDataOf};
+ghost use Rattle.linkinfo_data.specs.PeerFamilies.{peer_families};
 ghost use Rattle.linkinfo_data.specs.PeerLayer.{peer_types};
 ghost use Rattle.linkinfo.specs.Xstats.{xstats_bytes};
 ghost use Rattle.linkinfo.specs.declared.xstats.LinkXstats.{LinkXstats};
@@ -82,12 +85,13 @@ ghost use Rattle.linkinfo.specs.declared.role.Role.TheVariants as role;
 use crate::link_info::LinkInfoOf;
 use crate::list::VecLinkInfoOf;
 use crate::walk::{LinkInfoItem, LinkInfoWalk};
-use linkinfo_data::DataLayer;
 use linkinfo_data::laws::{
     families_lawful, well_formed as data_well_formed, well_formed_by as data_well_formed_by,
 };
-use linkinfo_table::{LayerFamilies, LinkPeer};
-use nla_frame::ExactEq;
+use linkinfo_data::{DataLayer, Typed};
+use linkinfo_table::layer_laws::lawful;
+use linkinfo_table::{LayerFamilies, LinkLayer, LinkPeer, Supplied};
+use nla_frame::{Bytes, ExactEq};
 
 /// What a byte string means. Each attribute in it means a value, under the current kinds before it,
 /// and the string means these values. Otherwise the string has an error, by `Frames` or `Broken`.
@@ -141,6 +145,47 @@ pub fn equal_items()
     ensures { (a b : LinkInfoItem) →
         IsTrue (⟦<LinkInfoItem<'static> as PartialEq>⟧.eq a b) ↔ (held a ≡ held b) }
 {}
+
+/// What the lists of two layers of one peer have in common: of a layer that supplies families, and
+/// of the peer's own, whose families keep each attribute verbatim.
+///
+/// A byte string that the first layer accepts the second accepts. It is equivalent under the first
+/// layer to each byte string to which it is equivalent under the second.
+pub fn refined<L: LinkLayer>(bytes: &[u8])
+where
+    L::Bond: Supplied,
+    L::Bridge: Supplied,
+    L::Vlan: Supplied,
+    L::Can: Supplied,
+    L::Hsr: Supplied,
+    L::Dsa: Supplied,
+    L::Tun: Supplied,
+    L::BondPort: Supplied,
+    L::BridgePort: Supplied,
+    ensures accepted { let families = ⟦<L as LayerFamilies>⟧.families in
+        IsOk (reading (data_families families) bytes.now) →
+        IsOk (reading (data_families (peer_families families.peer)) bytes.now) }
+    ensures alike { let families = ⟦<L as LayerFamilies>⟧.families in
+        IsOk (reading (data_families families) bytes.now) → (other : List ℕ) →
+        alike_strings (data_families (peer_families families.peer)) bytes.now other ≡ true →
+        alike_strings (data_families families) bytes.now other ≡ true }
+{
+    lawful::<L>();
+}
+
+/// What the calls of `typed` have in common with those of the root, as `refined` says of layers.
+///
+/// A byte string that `typed::check` accepts `check` accepts. It is equivalent by `typed::same` to
+/// each byte string to which it is equivalent by `same`.
+pub fn typed_refined(bytes: &[u8])
+    ensures accepted { IsOk (reading typed_layer bytes.now) →
+        IsOk (reading bytes_layer bytes.now) }
+    ensures alike { IsOk (reading typed_layer bytes.now) → (other : List ℕ) →
+        alike_strings bytes_layer bytes.now other ≡ true →
+        alike_strings typed_layer bytes.now other ≡ true }
+{
+    refined::<Typed<Bytes>>(bytes);
+}
 
 /// What changed when `pfcp` gained a family. Before, data under `pfcp`, and under no other kind
 /// (`kind`), was kept as bytes (`bytes`). Every byte string that is accepted now was accepted then.
@@ -239,8 +284,8 @@ pub fn well_formed<P: LinkPeer>()
     data_well_formed::<P>();
 }
 
-/// The same of any layer: attributes of a family that the layer supplies meet the condition of that
-/// family.
+/// Which lists are well formed under any layer: those that meet the conditions of `well_formed`, in
+/// which attributes of a family that the layer supplies meet the condition of that family.
 pub fn well_formed_by<P: LayerFamilies>()
     ensures { (xs : Links (data_families P.families)) → WellFormed (data_families P.families) xs
         ↔ Conditions (conditions_of P.families.peer.well (own_conditions P.families)) xs }

@@ -1,5 +1,5 @@
-//! Lists over the typed layer, by the names of the crate's root: the attributes of `vlan` links
-//! have types here, and so have the priority maps in them.
+//! Lists over the typed layer, by the names of the crate's root: the attributes of `dsa`, `hsr`,
+//! `tun` and `vlan` links have types here, and so have the priority maps in those of `vlan` links.
 //!
 //! ```text
 //! use linkinfo::typed::{self, InfoData, InfoVlan, LinkInfo, VecLinkInfo};
@@ -9,7 +9,7 @@
 //! ```
 //!
 //! These calls are those of the root over another layer. What they reject, and how they compare and
-//! write vlan attributes, is said there of the calls that end in `_of`.
+//! write typed attributes, is said there of the calls that end in `_of`.
 
 ghost use Rattle.std.specs.Prelude.{
   ◌≡◌,
@@ -51,7 +51,7 @@ use crate::placed::{ErrorAt, ErrorIn, check_at_of};
 use crate::unmet::first_unmet_of;
 pub use linkinfo_data::Typed;
 use linkinfo_data::{Difference, InfoDataOf, InfoPortDataOf, Unmet};
-pub use linkinfo_typed::{InfoVlan, VlanQosMapping};
+pub use linkinfo_typed::{InfoDsa, InfoHsr, InfoTun, InfoVlan, VlanQosMapping};
 use nla_frame::{Bytes, DecodeError};
 use std::alloc::Global;
 

@@ -32,17 +32,18 @@ peer_is_layer own is = record {
 }
 
 pub typed_is_layer : {P : Type 0} (own : Ghosts P) →
-    IsPeer own.meaning own.alike own.canonical own.well → IsSupplied ghosts.vlan →
+    IsPeer own.meaning own.alike own.canonical own.well → IsSupplied ghosts.dsa →
+    IsSupplied ghosts.hsr → IsSupplied ghosts.tun → IsSupplied ghosts.vlan →
     IsLayer (typed_families own)
-typed_is_layer own is vlan = record {
+typed_is_layer own is dsa hsr tun vlan = record {
   peer = is;
   bond = opaque_supplied 1 family.Bond;
   bridge = opaque_supplied 3 family.Bridge;
   vlan = vlan;
   can = opaque_supplied 5 family.Can;
-  hsr = opaque_supplied 7 family.Hsr;
-  dsa = opaque_supplied 6 family.Dsa;
-  tun = opaque_supplied 10 family.Tun;
+  hsr = hsr;
+  dsa = dsa;
+  tun = tun;
   bond_port = opaque_supplied 2 family.BondPort;
   bridge_port = opaque_supplied 4 family.BridgePort;
 }

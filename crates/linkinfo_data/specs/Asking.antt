@@ -23,7 +23,7 @@ use Rattle.nla_frame.specs.Attribute.{Attribute}
 use Rattle.nla_frame.specs.NlaItems.{nla_items}
 use Rattle.nla_frame.specs.declared.error.DecodeError.{DecodeError}
 use Rattle.nla_frame.specs.declared.error.Family.{Family}
-use Rattle.linkinfo_table.specs.Contents.{Contents, ListOf, NoList, listed}
+use Rattle.linkinfo_table.specs.Contents.{Contents, ListOf, listed, single_value}
 use Rattle.linkinfo_table.specs.Difference.{IsWithin}
 use Rattle.linkinfo_table.specs.Lists.{
   Measures,
@@ -80,7 +80,7 @@ first_facts attribute meaning headers alike = record {
   headers = λ p. first_headers headers (nla_items p);
   alike = λ p q. first_alike alike (nla_items p) (nla_items q);
   canonical = λ p. canonical_first attribute meaning (nla_items p);
-  contents = NoList;
+  contents = single_value;
 }
 
 -- payloads that are kept as bytes
@@ -90,7 +90,7 @@ bytes_facts = record {
   headers = λ _. 0;
   alike = λ p q. bytes_eq p q;
   canonical = λ p. p;
-  contents = NoList;
+  contents = single_value;
 }
 
 -- whether a payload is accepted: a `usize` can count its headers

@@ -10,13 +10,15 @@ use Rattle.linkinfo_data.specs.declared.peers.PeeredFamily.TheVariants as peered
 use Rattle.linkinfo_data.specs.declared.tunnels.TunnelFamily.TheVariants as tunnel
 use Rattle.linkinfo_data.specs.Layered.{DataOf, types_of}
 use Rattle.linkinfo_data.specs.declared.info_data.InfoDataOf.TheVariants as info
-use Rattle.linkinfo_data.specs.DeviceData.{devices_data_of, devices_known}
-use Rattle.linkinfo_table.specs.Layers.{Families, Types}
+use Rattle.linkinfo_data.specs.DeviceData.{devices_data_of, devices_known, devices_refined}
+use Rattle.linkinfo_table.specs.Layers.{Families, IsLayer, Types}
 use Rattle.linkinfo_data.specs.Known.{IsKnown}
-use Rattle.linkinfo_data.specs.LowerData.{lower_data_of, lower_known}
+use Rattle.linkinfo_data.specs.LowerData.{lower_data_of, lower_known, lower_refined}
 use Rattle.linkinfo_data.specs.Payloads.{Payload, as_bytes}
-use Rattle.linkinfo_data.specs.PeerData.{peers_data_of, peers_known}
-use Rattle.linkinfo_data.specs.TunnelData.{tunnels_data_of, tunnels_known}
+use Rattle.linkinfo_data.specs.PeerData.{peers_data_of, peers_known, peers_refined}
+use Rattle.linkinfo_data.specs.PeerFamilies.{peer_families}
+use Rattle.linkinfo_data.specs.Refined.{Refines, bytes_again}
+use Rattle.linkinfo_data.specs.TunnelData.{tunnels_data_of, tunnels_known, tunnels_refined}
 
 -- the family of a kind's data
 abbrev pub family_of : KindTag → DataFamily
@@ -78,3 +80,11 @@ data_known layer (of.Device f) = devices_known (types_of layer) f
 data_known layer (of.Tunnel f) = tunnels_known (types_of layer) f
 data_known layer (of.Peered f) = peers_known (types_of layer) layer.peer f
 data_known layer of.Raw = λ p. refl
+
+pub data_refined : {t : Types} (layer : Families t) → IsLayer layer → (f : DataFamily) →
+    Refines (data_of layer f) (data_of (peer_families layer.peer) f)
+data_refined layer is (of.Lower f) = lower_refined layer is f
+data_refined layer is (of.Device f) = devices_refined (types_of layer) f
+data_refined layer is (of.Tunnel f) = tunnels_refined (types_of layer) f
+data_refined layer is (of.Peered f) = peers_refined (types_of layer) layer.peer f
+data_refined layer is of.Raw = bytes_again _ _

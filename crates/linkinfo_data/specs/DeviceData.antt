@@ -8,6 +8,8 @@ use Rattle.linkinfo_data.specs.declared.devices.DeviceFamily.TheVariants as of
 use Rattle.linkinfo_data.specs.Known.{IsKnown, list_is_known}
 use Rattle.linkinfo_data.specs.Payloads.{Payload, as_list}
 use Rattle.linkinfo_data.specs.Plain.{plain}
+use Rattle.linkinfo_data.specs.PeerLayer.{peer_types}
+use Rattle.linkinfo_data.specs.Refined.{Refines, list_again}
 
 abbrev pub devices_data_of : (t : Types) → DeviceFamily → Payload (DataOf t)
 -- Begin: written by tables/generate from tables/kinds (data).
@@ -39,5 +41,20 @@ devices_known t of.Ipoib = list_is_known plain.ipoib (λ xs. info.Ipoib xs)
 devices_known t of.Xfrm = list_is_known plain.xfrm (λ xs. info.Xfrm xs)
 devices_known t of.MacSec = list_is_known plain.mac_sec (λ xs. info.MacSec xs)
 devices_known t of.RmNet = list_is_known plain.rm_net (λ xs. info.RmNet xs)
+
+-- End: written by tables/generate.
+
+pub devices_refined : (t : Types) (f : DeviceFamily) →
+    Refines (devices_data_of t f) (devices_data_of (peer_types t.Peer) f)
+-- Begin: written by tables/generate from tables/kinds (refined).
+devices_refined t of.IpVlan = list_again plain.ip_vlan _ _
+devices_refined t of.IpVtap = list_again plain.ip_vtap _ _
+devices_refined t (of.MacVlan around) = list_again (plain.mac_vlan around) _ _
+devices_refined t (of.MacVtap around) = list_again (plain.mac_vtap around) _ _
+devices_refined t of.Vrf = list_again plain.vrf _ _
+devices_refined t of.Ipoib = list_again plain.ipoib _ _
+devices_refined t of.Xfrm = list_again plain.xfrm _ _
+devices_refined t of.MacSec = list_again plain.mac_sec _ _
+devices_refined t of.RmNet = list_again plain.rm_net _ _
 
 -- End: written by tables/generate.

@@ -6,7 +6,7 @@ use Rattle.nla_frame.specs.declared.error.Family.TheVariants as family
 use Rattle.nla_frame.specs.declared.error.Family.{Family}
 use Rattle.linkinfo_numbers.specs.declared.tags.KindTag.{KindTag}
 use Rattle.linkinfo_table.specs.ByRows.{members_by_rows, rows_are_family, rows_name}
-use Rattle.linkinfo_table.specs.Contents.{NoList}
+use Rattle.linkinfo_table.specs.Contents.{single_value}
 use Rattle.linkinfo_table.specs.ByRows.{table_is_family, table_names}
 use Rattle.linkinfo_table.specs.Conditions.{opaque_attribute}
 use Rattle.linkinfo_table.specs.FamilyRows.{lookup_of, row_of, table_row}
@@ -226,8 +226,8 @@ wwan_names s = table_names family.Wwan (λ d. wwan.Other d) wwan_attribute wwan_
 
 pub ip_tunnel_is : (tag : KindTag) → IsFamily (plain.ip_tunnel tag)
 ip_tunnel_is tag = rows_are_family family.IpTunnel (λ d. ip_tunnel.Other d) ip_tunnel_attribute
-    (ip_tunnel_row tag) (ip_tunnel_owes tag) (λ _. refl) (λ _. 0) none_inside (λ _. NoList) false
-    (λ _. tt)
+    (ip_tunnel_row tag) (ip_tunnel_owes tag) (λ _. refl) (λ _. 0) none_inside (λ _. single_value)
+    false (λ _. tt)
 
 pub ip_tunnel_names : (tag : KindTag) (s : List ℕ) →
     EachNames family.IpTunnel (values (plain.ip_tunnel tag).meaning (nla_items s))

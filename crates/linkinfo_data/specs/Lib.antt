@@ -22,6 +22,7 @@ pub mod PeerFamilies
 pub mod PeerLayer
 pub mod Plain
 pub mod PortData
+pub mod Refined
 pub mod TunnelData
 pub mod TypedLayer
 pub mod TypedTypes

@@ -10,6 +10,8 @@ use Rattle.linkinfo_data.specs.declared.peers.PeeredFamily.TheVariants as of
 use Rattle.linkinfo_data.specs.Known.{IsKnown, first_is_known, list_is_known}
 use Rattle.linkinfo_data.specs.Payloads.{Payload, as_list, as_first}
 use Rattle.linkinfo_data.specs.Plain.{plain}
+use Rattle.linkinfo_data.specs.PeerLayer.{peer_types}
+use Rattle.linkinfo_data.specs.Refined.{Refines, first_again, list_again}
 
 abbrev pub peers_data_of : (t : Types) → Ghosts t.Peer → PeeredFamily → Payload (DataOf t)
 -- Begin: written by tables/generate from tables/kinds (data).
@@ -33,5 +35,18 @@ peers_known t peer of.Vxcan = first_is_known (vxcan_members peer) (λ x. info.Vx
 peers_known t peer of.BatAdv = list_is_known plain.bat_adv (λ xs. info.BatAdv xs)
 peers_known t peer of.Wwan = list_is_known plain.wwan (λ xs. info.Wwan xs)
 peers_known t peer of.Pfcp = list_is_known plain.pfcp (λ xs. info.Pfcp xs)
+
+-- End: written by tables/generate.
+
+pub peers_refined : (t : Types) (peer : Ghosts t.Peer) (f : PeeredFamily) →
+    Refines (peers_data_of t peer f) (peers_data_of (peer_types t.Peer) peer f)
+-- Begin: written by tables/generate from tables/kinds (refined).
+peers_refined t peer of.Veth = first_again (veth_members peer) _ _
+peers_refined t peer of.Wireguard = list_again plain.wireguard _ _
+peers_refined t peer of.Netkit = list_again (netkit_members peer) _ _
+peers_refined t peer of.Vxcan = first_again (vxcan_members peer) _ _
+peers_refined t peer of.BatAdv = list_again plain.bat_adv _ _
+peers_refined t peer of.Wwan = list_again plain.wwan _ _
+peers_refined t peer of.Pfcp = list_again plain.pfcp _ _
 
 -- End: written by tables/generate.

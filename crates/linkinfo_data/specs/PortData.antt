@@ -3,14 +3,22 @@ use Rattle.std.specs.Prelude.{ℕ, List, map, refl}
 use Rattle.nla_frame.specs.Attribute.{Attribute, list_string}
 use Rattle.linkinfo_numbers.specs.declared.tags.PortTag.{PortTag}
 use Rattle.linkinfo_numbers.specs.declared.tags.PortTag.TheVariants as tag
-use Rattle.linkinfo_table.specs.Layers.{Families, Types}
+use Rattle.linkinfo_table.specs.Layers.{Families, IsLayer, Types}
 use Rattle.linkinfo_data.specs.Layered.{PortDataOf}
 use Rattle.linkinfo_data.specs.declared.port_data.InfoPortDataOf.TheVariants as info
 use Rattle.linkinfo_data.specs.declared.port_data.PortFamily.{PortFamily}
 use Rattle.linkinfo_data.specs.declared.port_data.PortFamily.TheVariants as of
 use Rattle.linkinfo_data.specs.Known.{IsKnown, list_is_known}
 use Rattle.linkinfo_data.specs.Payloads.{Payload, as_list, as_bytes}
+use Rattle.linkinfo_data.specs.PeerFamilies.{peer_families}
 use Rattle.linkinfo_data.specs.Plain.{plain}
+use Rattle.linkinfo_data.specs.Refined.{
+  Refines,
+  bytes_again,
+  list_again,
+  list_refined,
+  opaque_verbatim,
+}
 
 -- the family of a port kind's data
 abbrev pub port_family_of : PortTag → PortFamily
@@ -47,3 +55,13 @@ port_known layer of.Bridge = list_is_known layer.bridge_port (λ xs. info.Bridge
 port_known layer of.Vrf = list_is_known plain.vrf_port (λ xs. info.VrfPort xs)
 port_known layer of.Team = list_is_known plain.team_port (λ xs. info.TeamPort xs)
 port_known layer of.Raw = λ p. refl
+
+pub port_refined : {t : Types} (layer : Families t) → IsLayer layer → (f : PortFamily) →
+    Refines (port_data_of layer f) (port_data_of (peer_families layer.peer) f)
+port_refined layer is of.Bond =
+    list_refined layer.bond_port plain.bond_port (opaque_verbatim _ _) is.bond_port.laws _ _
+port_refined layer is of.Bridge =
+    list_refined layer.bridge_port plain.bridge_port (opaque_verbatim _ _) is.bridge_port.laws _ _
+port_refined layer is of.Vrf = list_again plain.vrf_port _ _
+port_refined layer is of.Team = list_again plain.team_port _ _
+port_refined layer is of.Raw = bytes_again _ _

@@ -24,7 +24,7 @@ pub fn families_lawful<P: DataLayer>()
     P::lawful();
 }
 
-/// The same by the families that a layer supplies.
+/// Data and port data of each family are lawful by the laws of the families that a layer supplies.
 pub fn families_lawful_by<L: LinkLayer>()
 where
     L::Bond: Supplied,
@@ -80,7 +80,8 @@ pub fn well_formed<P: LinkPeer>()
         AreStated (data_families layer) (conditions_of layer.peer.well opaque_families) }
 {}
 
-/// The same of any layer: attributes of a family that the layer supplies meet the condition of that
+/// Which data and which port data of each family are well formed under any layer, stated by variant
+/// as in `well_formed`: attributes of a family that the layer supplies meet the condition of that
 /// family.
 pub fn well_formed_by<P: LayerFamilies>()
     ensures { AreStated (data_families P.families)

@@ -119,7 +119,7 @@ pub trait DataLayer: Eq + Sized {
     /// Validating data gives the verdict on what it means.
     ghost data_known: { (family : DataFamily) → IsKnown (families.data_of family) };
 
-    /// The same of port data.
+    /// Validating port data gives the verdict on what it means.
     ghost port_data_known: { (family : PortFamily) → IsKnown (families.port_data_of family) };
 }
 

@@ -1,6 +1,9 @@
 //! The layer whose families have types.
 
 ghost use Rattle.linkinfo_table.specs.Members.{Members};
+ghost use Rattle.linkinfo_typed.specs.declared.dsa.InfoDsa.{InfoDsa};
+ghost use Rattle.linkinfo_typed.specs.declared.hsr.InfoHsr.{InfoHsr};
+ghost use Rattle.linkinfo_typed.specs.declared.tun.InfoTun.{InfoTun};
 ghost use Rattle.linkinfo_typed.specs.declared.vlan.InfoVlan.{InfoVlan};
 
 use crate::ask::Ask;
@@ -17,19 +20,15 @@ use crate::port_data::{InfoPortDataOf, PortFamily, encode_port_data, of_port};
 use crate::tunnels::{TunnelFamily, of_tunnel};
 use linkinfo_devices::InfoVrfPort;
 use linkinfo_peers::InfoTeamPort;
-use linkinfo_table::lower::{
-    InfoBond, InfoBondPort, InfoBridge, InfoBridgePort, InfoCan, InfoDsa, InfoHsr,
-};
-use linkinfo_table::opaque::TUN;
-use linkinfo_table::{LinkLayer, LinkPeer, ListedFamily, Opaque};
-use linkinfo_typed::InfoVlan;
+use linkinfo_table::lower::{InfoBond, InfoBondPort, InfoBridge, InfoBridgePort, InfoCan};
+use linkinfo_table::{LinkLayer, LinkPeer, ListedFamily};
+use linkinfo_typed::{InfoDsa, InfoHsr, InfoTun, InfoVlan};
 use nla_frame::{Bytes, DecodeError, HeaderCount};
 use std::alloc::Global;
 use std::marker::PhantomData;
 
-/// The layer whose peers are `P`, and whose attributes of `vlan` links have types. Those of
-/// `bond`, `bridge`, `can`, `hsr`, `dsa` and `tun` links, and of ports of bonds and bridges, are
-/// opaque.
+/// The layer whose peers are `P`, and whose attributes of `dsa`, `hsr`, `tun` and `vlan` links have
+/// types. Those of `bond`, `bridge` and `can` links, and of ports of bonds and bridges, are opaque.
 ///
 /// A list of links with such attributes is `VecLinkInfoOf<Typed<Bytes>>`.
 #[derive(Clone, Debug, PartialEq, Eq, Drop)]
@@ -52,7 +51,7 @@ impl<P: LinkPeer> LinkLayer for Typed<P> {
 
     type Dsa = InfoDsa;
 
-    type Tun = Opaque<TUN>;
+    type Tun = InfoTun;
 
     type BondPort = InfoBondPort;
 
@@ -76,6 +75,9 @@ impl<P: LinkPeer> DataLayer for Typed<P> {
     ghost port_data_known = { port_known (typed_families P.LinkPeer.own) };
 
     fn lawful() {
+        supplied_lawful::<InfoDsa>();
+        supplied_lawful::<InfoHsr>();
+        supplied_lawful::<InfoTun>();
         supplied_lawful::<InfoVlan>();
     }
 
@@ -154,6 +156,12 @@ impl<P: LinkPeer> DataLayer for Typed<P> {
 /// The specification of the attributes of each family that the typed layer has in place of an
 /// opaque one.
 pub trait TypedFamilies {
+    ghost dsa: { Members InfoDsa };
+
+    ghost hsr: { Members InfoHsr };
+
+    ghost tun: { Members InfoTun };
+
     ghost vlan: { Members InfoVlan };
 }
 
@@ -162,5 +170,11 @@ pub trait TypedFamilies {
 pub struct TypedRows;
 
 impl TypedFamilies for TypedRows {
+    ghost dsa = { ⟦<InfoDsa as ListedFamily>⟧.members tt };
+
+    ghost hsr = { ⟦<InfoHsr as ListedFamily>⟧.members tt };
+
+    ghost tun = { ⟦<InfoTun as ListedFamily>⟧.members tt };
+
     ghost vlan = { ⟦<InfoVlan as ListedFamily>⟧.members tt };
 }

@@ -46,6 +46,7 @@ use Rattle.linkinfo_table.specs.FamilyRowLaws.{table_lookup}
 use Rattle.linkinfo_table.specs.Lookups.{LookupSays}
 use Rattle.linkinfo_table.specs.ByRows.{members_with, rows_are_family}
 use Rattle.linkinfo_table.specs.Contents.{Contents}
+use Rattle.linkinfo_table.specs.Described.{LookupContains}
 use Rattle.linkinfo_table.specs.Members.{IsFamily}
 use Rattle.linkinfo_table.specs.Rows.{headers_inside, meaning_in}
 use Rattle.linkinfo_table.specs.Labels.{each_keeps}
@@ -65,6 +66,7 @@ use Rattle.linkinfo_devices.specs.MacView.{
 }
 use Rattle.linkinfo_devices.specs.Nested.{
   nested_contained,
+  nested_contains,
   nested_contents,
   nested_rows,
   nested_owes,
@@ -144,6 +146,14 @@ mac_says f attribute l k c a =
     nested_says f (λ d. l.other d) attribute (λ xs. l.mac_addr_data xs) (mac_plain_rows l)
     (mac_keeps attribute l k) (λ xs. k.shown (MacAddrData xs))
     (λ d n. mac_owes f attribute l k d n) c a
+
+-- the contents of a type are what its shape says
+pub mac_contains : {X : Type 0} (f : Family) (attribute : X → Attribute) (l : MacLabels X) →
+    MacLabelsKeep attribute l → (c n : ℕ) →
+    LookupContains f (lookup_of (mac_rows f attribute l c n)) (mac_contents f attribute l c n)
+mac_contains f attribute l k c n =
+    nested_contains f (λ d. l.other d) attribute (λ xs. l.mac_addr_data xs) (mac_plain_rows l)
+    (mac_keeps attribute l k) c n
 
 -- what `LinkFamily` requires of such a family
 pub mac_is : {X : Type 0} (f : Family) (attribute : X → Attribute) (l : MacLabels X) →

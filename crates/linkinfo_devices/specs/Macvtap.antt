@@ -14,12 +14,14 @@ use Rattle.linkinfo_table.specs.FamilyRows.{
   table_row,
 }
 use Rattle.linkinfo_table.specs.Contents.{Contents}
+use Rattle.linkinfo_table.specs.Described.{LookupContains}
 use Rattle.linkinfo_table.specs.Lookups.{LookupSays}
 use Rattle.linkinfo_table.specs.ByRows.{members_with}
 use Rattle.linkinfo_table.specs.Members.{IsFamily}
 use Rattle.linkinfo_table.specs.Rows.{headers_inside, meaning_in}
 use Rattle.linkinfo_table.specs.declared.decoded.Decoded.{Decoded}
 use Rattle.linkinfo_devices.specs.MacRows.{
+  mac_contains,
   mac_contents,
   mac_is,
   mac_lookup,
@@ -183,6 +185,12 @@ pub mac_vtap_says : (c : ℕ) (a : Attribute) →
     (lookup_of (mac_vtap_rows c (masked a.kind)))
     (meaning_in family.MacVtap (λ d. macvtap.Other d) (λ n. row_of (mac_vtap_rows c n)) a)
 mac_vtap_says c a = mac_says family.MacVtap mac_vtap_attribute mac_vtap_labels mac_vtap_keep c a
+
+-- the contents of a type are what its shape says
+pub mac_vtap_contains : (c n : ℕ) →
+    LookupContains family.MacVtap (lookup_of (mac_vtap_rows c n)) (mac_vtap_contents c n)
+mac_vtap_contains c n =
+    mac_contains family.MacVtap mac_vtap_attribute mac_vtap_labels mac_vtap_keep c n
 
 -- the attributes inside so many lists are those of a lawful family
 pub mac_vtap_is : (c : ℕ) →

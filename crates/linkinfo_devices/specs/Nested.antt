@@ -47,7 +47,7 @@ use Rattle.linkinfo_table.specs.Contents.{
   IsContent,
   ListOf,
   Listed,
-  NoList,
+  single_value,
   each_accepted,
 }
 use Rattle.linkinfo_table.specs.ListPayload.{values_accepted}
@@ -88,6 +88,7 @@ use Rattle.linkinfo_table.specs.FamilyRows.{
   find,
   plain_or_absent,
 }
+use Rattle.linkinfo_table.specs.Described.{LookupContains, flat_contains}
 use Rattle.linkinfo_table.specs.ErrorMemory.{IsOwnCertain}
 use Rattle.linkinfo_table.specs.FamilyRowLaws.{owed, table_flat, table_owes}
 use Rattle.linkinfo_table.specs.RowLaws.{rows_quarter}
@@ -207,13 +208,13 @@ module _ {X : Type 0} (f : Family) (other : DefaultNla → X) (attribute : X →
   -- deeper, below the maximum depth
 
   abbrev pub contents_below : ℕ → ℕ → Contents
-  contents_below zero n = NoList
+  contents_below zero n = single_value
   contents_below (suc levels) n =
       if n == 5
       then ListOf
       (self_listed f (meaning_in f other (λ k. level levels k)) (alike_in (λ k. level levels k)))
       (contents_below levels)
-      else NoList
+      else single_value
 
   abbrev pub nested_contents : ℕ → ℕ → Contents
   nested_contents around n = contents_below (128 - around) n
@@ -228,10 +229,10 @@ module _ {X : Type 0} (f : Family) (other : DefaultNla → X) (attribute : X →
       ap (λ (levels : ℕ). contents_below levels n) one_less
       ∙ ap (λ (k : ℕ). contents_below (suc (128 - (c + 1))) k) e
 
-  pub flat_contents : (c n : ℕ) → (n ≡ 5 → 128 ≤ c) → nested_contents c n ≡ NoList
+  pub flat_contents : (c n : ℕ) → (n ≡ 5 → 128 ≤ c) → nested_contents c n ≡ single_value
   flat_contents c n h = go (128 - c) (λ e. omega (arith, h e))
     where
-      go : (levels : ℕ) → (n ≡ 5 → levels ≡ 0) → contents_below levels n ≡ NoList
+      go : (levels : ℕ) → (n ≡ 5 → levels ≡ 0) → contents_below levels n ≡ single_value
       go zero none = refl
       go (suc levels) none = by (n == 5) refl
         where
@@ -240,7 +241,7 @@ module _ {X : Type 0} (f : Family) (other : DefaultNla → X) (attribute : X →
               then ListOf
               (self_listed f (meaning_in f other (λ k. level levels k))
               (alike_in (λ k. level levels k))) (contents_below levels)
-              else NoList) ≡ NoList
+              else single_value) ≡ single_value
           by true e = absurd (let never : suc levels ≡ 0 = none (eqb-true n 5 e) in cc)
           by false e = refl
 
@@ -282,7 +283,7 @@ module _ {X : Type 0} (f : Family) (other : DefaultNla → X) (attribute : X →
           then ListOf
           (self_listed f (meaning_in f other (λ k. level levels k))
           (alike_in (λ k. level levels k))) (contents_below levels)
-          else NoList) n
+          else single_value) n
           (λ a. is_ok (meaning_in f other (λ k. level (suc levels) k) a))
           (alike_in (λ k. level (suc levels) k))
       by inside true e =
@@ -322,6 +323,38 @@ module _ {X : Type 0} (f : Family) (other : DefaultNla → X) (attribute : X →
     pub flat_elsewhere : (c n : ℕ) → (n ≡ 5 → 128 ≤ c) →
         IsFlat (nested_rows f other attribute label plain c n)
     flat_elsewhere c n h = elsewhere (128 - c) n (λ e. omega (arith, h e))
+
+    -- the contents of a type are what its shape says
+    contains_below : (levels n : ℕ) →
+        LookupContains f
+        (lookup_of (level_rows f other attribute 5 label (λ k. table_row plain k) levels n))
+        (contents_below levels n)
+    contains_below zero n = go (n == 5)
+      where
+        go : (b : Bool) →
+            LookupContains f (lookup_of (row_if b (Refuses cause.Depth) (table_row plain n)))
+            single_value
+        go true = refl
+        go false = flat_contains f (table_row plain n) (table_flat attribute plain keeps n)
+    contains_below (suc levels) n = go (n == 5)
+      where
+        go : (b : Bool) →
+            LookupContains f
+            (lookup_of (row_if b (Custom shape.SelfList false
+            (inner_codec f other attribute 5 label (λ k. table_row plain k) (λ k. level levels k))
+            label) (table_row plain n)))
+            (if b
+            then ListOf
+            (self_listed f (meaning_in f other (λ k. level levels k))
+            (alike_in (λ k. level levels k))) (contents_below levels)
+            else single_value)
+        go true = refl
+        go false = flat_contains f (table_row plain n) (table_flat attribute plain keeps n)
+
+    pub nested_contains : (c n : ℕ) →
+        LookupContains f (lookup_of (nested_rows f other attribute label plain c n))
+        (nested_contents c n)
+    nested_contains c n = contains_below (128 - c) n
 
     pub nested_owes : (keeps_list : (xs : List X) →
         attribute (label xs) ≡ record { kind = 5; value = list_string (map attribute xs) }) →

@@ -2,6 +2,7 @@
 
 ghost use Rattle.linkinfo_devices.specs.Macvlan.{
   mac_vlan_attribute,
+  mac_vlan_contains,
   mac_vlan_contents,
   mac_vlan_holds_list,
   mac_vlan_is,
@@ -266,6 +267,8 @@ impl LinkFamily for InfoMacVlan {
     ghost looked_up = { λ c a. mac_vlan_says c a };
 
     ghost lawful = { mac_vlan_is };
+
+    ghost described = { mac_vlan_contains };
 
     ghost error_certain = { λ c a e.
         rows_certain family.MacVlan (λ d. macvlan.Other d) (mac_vlan_rows c) a e

@@ -2,6 +2,7 @@
 
 ghost use Rattle.linkinfo_devices.specs.Macvtap.{
   mac_vtap_attribute,
+  mac_vtap_contains,
   mac_vtap_contents,
   mac_vtap_holds_list,
   mac_vtap_is,
@@ -266,6 +267,8 @@ impl LinkFamily for InfoMacVtap {
     ghost looked_up = { λ c a. mac_vtap_says c a };
 
     ghost lawful = { mac_vtap_is };
+
+    ghost described = { mac_vtap_contains };
 
     ghost error_certain = { λ c a e.
         rows_certain family.MacVtap (λ d. macvtap.Other d) (mac_vtap_rows c) a e

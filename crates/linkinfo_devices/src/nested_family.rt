@@ -4,7 +4,7 @@ ghost use Rattle.std.specs.Prelude.{◌≡◌, ◌+◌, ◌==◌, ◌&&◌, ◌<
 ghost use Rattle.nla_frame.specs.Attribute.{Attribute, list_string, masked};
 ghost use Rattle.nla_frame.specs.NlaItems.{nla_items};
 ghost use Rattle.linkinfo_shapes.specs.Table.{shape_of};
-ghost use Rattle.linkinfo_table.specs.Contents.{Contents, ListOf, NoList};
+ghost use Rattle.linkinfo_table.specs.Contents.{Contents, ListOf, single_value};
 ghost use Rattle.linkinfo_table.specs.FamilyMeaning.{alike_by, headers_by, meaning_by, memory_by};
 ghost use Rattle.linkinfo_table.specs.FamilyRows.{IsFlat, lookup_in};
 ghost use Rattle.linkinfo_table.specs.Lists.{alike_pairs, headers_of, memory_of, values};
@@ -72,7 +72,7 @@ pub trait NestedFamily: RowFamily<Context = u8> + Drop {
         (alike_by Self.RowFamily.own (c + 1)))
         (contents (c + 1)) };
 
-    ghost flat_contents: { (c n : ℕ) → (n ≡ 5 → 128 ≤ c) → contents c n ≡ NoList };
+    ghost flat_contents: { (c n : ℕ) → (n ≡ 5 → 128 ≤ c) → contents c n ≡ single_value };
 
     ghost flat_elsewhere: { (c n : ℕ) → (n ≡ 5 → 128 ≤ c) → IsFlat (Self.rows c n) };
 }

@@ -4,12 +4,16 @@ use Rattle.std.proofs.Common.{
   ℕ,
   ◌+◌,
   ◌<◌,
+  ◌-◌,
+  ◌≤◌,
   Bool,
   true,
   false,
   List,
   ◌∷◌,
   ◌++◌,
+  Option,
+  None,
   Result,
   Ok,
   Err,
@@ -21,13 +25,23 @@ use Rattle.std.proofs.Common.{
   ap,
   ◌∙◌,
 }
-use Rattle.std.specs.Prelude.{◌==◌, if◌then◌else◌, IsOk}
+use Rattle.std.specs.Prelude.{◌==◌, ◌&&◌, if◌then◌else◌, IsOk, is_ok}
 use Rattle.std.proofs.lemmas.Bool.{cond-true, eqb-true}
 use Rattle.std.proofs.lemmas.List.{at_drop_more}
-use Rattle.nla_frame.specs.Attribute.{Attribute, IsAttribute, canonical_string, list_string}
+use Rattle.nla_frame.specs.Attribute.{
+  Attribute,
+  IsAttribute,
+  aligned,
+  canonical_string,
+  list_string,
+}
 use Rattle.nla_frame.specs.Canonical.{bytes_for}
+use Rattle.nla_frame.specs.NlaItems.{GoesOn, nla_items}
 use Rattle.nla_frame.specs.declared.error.Cause.TheVariants as cause
 use Rattle.linkinfo_table.specs.Codecs.{Own, PayloadError}
+use Rattle.linkinfo_table.specs.Described.{each_framed, or_zero}
+use Rattle.linkinfo_table.specs.Difference.{error_offset, own_error, stays}
+use Rattle.linkinfo_table.proofs.Lasts.{moved}
 use Rattle.linkinfo_payloads.specs.Addresses.{addresses, numbered, with_first}
 use Rattle.linkinfo_payloads.specs.Fixed.{IsFixed}
 
@@ -103,3 +117,49 @@ module _ {X : Type 0} (bytes : X → List ℕ) where
       at_drop_more (λ ys. list_string (numbered bytes k ys)) xs i x h
       ∙ ap (λ y. canonical_string (record { kind = k; value = bytes y })
       ++ list_string (numbered bytes (k + 1) (drop (i + 1) xs))) (sym e)
+
+-- ---- the offset of an error
+
+-- the offset of the error in what is left of a list from an offset
+abbrev pub error_from : {X : Type 0} → ℕ → (List ℕ → X) → ℕ → List (Result Attribute ℕ) → Option ℕ
+error_from width of n ps =
+    own_error (is_ok (addresses width of ps))
+    (if each_framed (λ a. length a.value == width) ps
+    then 4 + or_zero (error_offset (λ _ _. None) stays tt n ps)
+    else 0)
+
+module _ {X : Type 0} (width : ℕ) (of : List ℕ → X) where
+  with_first_ok : (x : X) (r : Result (List X) PayloadError) → is_ok (with_first x r) ≡ is_ok r
+  with_first_ok x (Ok xs) = refl
+  with_first_ok x (Err e) = refl
+
+  -- after an address the error is that of the others
+  one_address : (n : ℕ) (a : Attribute) (more : List (Result Attribute ℕ)) →
+      (length a.value == width) ≡ true →
+      error_from width of n (Ok a ∷ more)
+      ≡ error_from width of (n + aligned (4 + length a.value)) more
+  one_address n a more e =
+      let next = n + aligned (4 + length a.value) in
+      ap (λ (b : Bool).
+      own_error
+      (is_ok (if b then with_first (of a.value) (addresses width of more)
+      else Err (Own cause.Length)))
+      (if b && each_framed (λ x. length x.value == width) more
+      then 4 + or_zero (error_offset (λ _ _. None) stays tt next more)
+      else 0)) e
+      ∙ ap (λ (b : Bool).
+      own_error b
+      (if each_framed (λ x. length x.value == width) more
+      then 4 + or_zero (error_offset (λ _ _. None) stays tt next more)
+      else 0)) (with_first_ok (of a.value) (addresses width of more))
+
+  pub address_passes : (s rest after : List ℕ) (a : Attribute) (old new : ℕ) →
+      GoesOn rest old new a after → length rest ≤ length s → (length a.value == width) ≡ true →
+      error_from width of (length s - length rest) (nla_items rest)
+      ≡ error_from width of (length s - length after) (nla_items after)
+  address_passes s rest after a old new step le long =
+      let n = length s - length rest in
+      ap (λ (ps : List (Result Attribute ℕ)). error_from width of n ps) step.nla_items_are
+      ∙ one_address n a (nla_items after) long
+      ∙ moved (error_from width of) (λ m k. refl) n (aligned (4 + length a.value)) s rest after le
+      refl step.rest_is

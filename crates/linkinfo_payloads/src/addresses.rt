@@ -10,8 +10,10 @@ ghost use Rattle.std.specs.Prelude.{
   ◌^◌,
   ℕ,
   [],
+  IfSome,
   IsOk,
   SomeIff,
+  is_ok,
   length,
   refl,
 };
@@ -21,10 +23,13 @@ ghost use Rattle.nla_frame.specs.Error.{memory_error};
 ghost use Rattle.nla_frame.specs.NlaItems.{nla_items};
 ghost use Rattle.nla_frame.specs.Writing.{Writes, WritesAttribute};
 ghost use Rattle.nla_frame.specs.declared.error.Cause.TheVariants as cause;
+ghost use Rattle.nla_frame.specs.declared.error.Family.{Family};
 ghost use Rattle.linkinfo_shapes.specs.declared.shape.Shape.{Shape};
 ghost use Rattle.linkinfo_shapes.specs.declared.shape.Shape.TheVariants as shape;
 ghost use Rattle.linkinfo_table.specs.Calls.{Checks, Compares, Reads};
 ghost use Rattle.linkinfo_table.specs.Contents.{NoList};
+ghost use Rattle.linkinfo_table.specs.Described.{ShapeContains, address_place};
+ghost use Rattle.linkinfo_table.specs.Difference.{payload_error};
 ghost use Rattle.linkinfo_table.specs.Lists.{AllWell, alike_pairs};
 ghost use Rattle.linkinfo_table.specs.Payloads.{IsAddresses, placed};
 ghost use Rattle.linkinfo_payloads.specs.Addresses.{
@@ -39,7 +44,7 @@ ghost use Rattle.linkinfo_payloads.specs.Addresses.{
 use crate::exact::refused;
 use crate::fixed::Fixed;
 use linkinfo_table::{
-    Difference, LinkPayload, PlacedNla, Shape, Unmet, unmet_as_whole, whole_difference, whole_error,
+    Difference, LinkPayload, PlacedNla, Shape, Unmet, unmet_as_whole, whole_difference,
 };
 use nla_frame::{
     DecodeError, ExactEq, Family, HeaderCount, fitting, next_attribute, write_bytes_attribute,
@@ -56,6 +61,9 @@ pub trait Address: Fixed + Eq + ExactEq + Drop {
 
     ghost of_shape: { IsAddresses shape };
 
+    ghost placed: { (family : Family) →
+        ShapeContains family shape (NoList (address_place Self.WIDTH)) };
+
     ghost aligned: { Self.WIDTH % 4 ≡ 0 };
 
     ghost some: { 4 ≤ Self.WIDTH };
@@ -70,6 +78,8 @@ impl Address for Ipv4Addr {
 
     ghost of_shape = { tt };
 
+    ghost placed = { λ _. refl };
+
     ghost aligned = { refl };
 
     ghost some = { Prim.omega arith };
@@ -83,6 +93,8 @@ impl Address for Ipv6Addr {
     ghost shape = { shape.V6List };
 
     ghost of_shape = { tt };
+
+    ghost placed = { λ _. refl };
 
     ghost aligned = { refl };
 
@@ -200,9 +212,11 @@ impl<A: Address> LinkPayload for Addresses<A> {
 
     ghost needs_memory = { λ p. address_memory A.WIDTH (nla_items p) };
 
-    ghost contents = { NoList };
+    ghost contents = { NoList (address_place A.WIDTH) };
 
     ghost contained = { tt };
+
+    ghost described = { A.Address.placed };
 
     ghost lawful = { address_payload A.WIDTH A.value_of A.bytes_of A.holds A.fixed A.aligned A.some
         A.short A.Address.shape A.Address.of_shape };
@@ -247,7 +261,7 @@ impl<A: Address> LinkPayload for Addresses<A> {
     }
 
     fn error_offset(payload: &[u8]) -> Option<usize> {
-        whole_error(address_check::<A>(payload, Family::Frame, 0, &mut HeaderCount::new()))
+        address_error::<A>(payload)
     }
 
     fn difference(family: Family, a: &PlacedNla<'_>, b: &PlacedNla<'_>) -> Option<Difference> {
@@ -314,6 +328,29 @@ fn address_check<A: Address>(
         rest = after;
     }
     Ok(())
+}
+
+/// The offset of the error of an attribute with this list, in bytes from the attribute's header, or
+/// `None` if the list is accepted: 0 if an attribute has another length than an address, otherwise
+/// that of the bytes where no header is accepted.
+fn address_error<A: Address>(payload: &[u8]) -> Option<usize>
+    ensures error { result
+        ≡ payload_error (NoList (address_place A.WIDTH))
+        (is_ok (addresses A.WIDTH A.value_of (nla_items payload.now))) payload.now }
+    ensures within { IfSome result (λ n. n ≤ 4 + length payload.now) }
+{
+    let mut count = HeaderCount::new();
+    let mut rest = payload;
+    while let Some(next) = next_attribute(rest, &mut count) {
+        let Ok((nla, after)) = next else {
+            return Some(4 + (payload.len() - rest.len()));
+        };
+        if nla.value().len() != A::WIDTH {
+            return Some(0);
+        }
+        rest = after;
+    }
+    None
 }
 
 /// Whether two lists are equivalent: they have as many attributes, and equal payloads in pairs.

@@ -27,7 +27,7 @@ ghost use Rattle.nla_frame.specs.declared.error.Cause.TheVariants as cause;
 ghost use Rattle.nla_frame.specs.Writing.{Writes};
 ghost use Rattle.linkinfo_shapes.specs.declared.shape.Shape.{Shape};
 ghost use Rattle.linkinfo_table.specs.Calls.{Checks, Compares, Reads};
-ghost use Rattle.linkinfo_table.specs.Contents.{NoList};
+ghost use Rattle.linkinfo_table.specs.Contents.{single_value};
 ghost use Rattle.linkinfo_table.specs.Difference.{
   IsWithin,
   end_of,
@@ -166,7 +166,7 @@ pub fn exact_write<T: ExactPayload>(payload: &[u8], buffer: &mut [u8]) -> usize
 /// which is 0, or `None` if the payload is accepted. Does not allocate.
 pub fn exact_error<T: ExactPayload>(payload: &[u8]) -> Option<usize>
     ensures error { result
-        ≡ payload_error NoList (is_ok (exact_means T.accepted T.value_of payload.now))
+        ≡ payload_error single_value (is_ok (exact_means T.accepted T.value_of payload.now))
         payload.now }
     ensures within { IfSome result (λ n. n ≤ 4 + length payload.now) }
 {
@@ -181,7 +181,7 @@ pub fn exact_error<T: ExactPayload>(payload: &[u8]) -> Option<usize>
 /// not allocate.
 pub fn exact_difference(family: Family, a: &PlacedNla<'_>, b: &PlacedNla<'_>) -> Option<Difference>
     ensures difference { result
-        ≡ payload_difference NoList family (bytes_eq a.now.nla.value b.now.nla.value)
+        ≡ payload_difference single_value family (bytes_eq a.now.nla.value b.now.nla.value)
         a.now b.now }
     ensures within { IfSome result (IsWithin (end_of a.now) (end_of b.now)) }
 {
@@ -192,7 +192,7 @@ pub fn exact_difference(family: Family, a: &PlacedNla<'_>, b: &PlacedNla<'_>) ->
 /// is. Does not allocate.
 pub fn exact_unmet(family: Family, have: &PlacedNla<'_>, want: &PlacedNla<'_>) -> Option<Unmet>
     ensures unmet { result
-        ≡ payload_unmet NoList family
+        ≡ payload_unmet single_value family
         (bytes_eq have.now.nla.value want.now.nla.value
         || bytes_eq have.now.nla.value want.now.nla.value)
         have.now want.now }

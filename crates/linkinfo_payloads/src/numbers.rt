@@ -6,7 +6,8 @@ ghost use Rattle.std.specs.List.{AllByRecursion, flat_map};
 ghost use Rattle.nla_frame.specs.Writing.{Writes};
 ghost use Rattle.linkinfo_shapes.specs.declared.shape.Shape.{Shape};
 ghost use Rattle.linkinfo_shapes.specs.declared.shape.Shape.TheVariants as shape;
-ghost use Rattle.linkinfo_table.specs.Contents.{NoList};
+ghost use Rattle.linkinfo_table.specs.Contents.{single_value};
+ghost use Rattle.linkinfo_table.specs.Described.{exact_contains};
 ghost use Rattle.linkinfo_table.specs.Payloads.{IsExact};
 ghost use Rattle.std.specs.Str.{bytes_eq};
 ghost use Rattle.linkinfo_payloads.specs.Arrays.{
@@ -232,9 +233,11 @@ impl<N: Number> LinkPayload for Numbers<N> {
 
     ghost needs_memory = { array_memory N.WIDTH };
 
-    ghost contents = { NoList };
+    ghost contents = { single_value };
 
     ghost contained = { tt };
+
+    ghost described = { λ family. exact_contains family N.Number.shape N.Number.of_shape };
 
     ghost lawful = { exact_payload (is_multiple N.WIDTH) (array_of N.WIDTH N.value_of)
         (λ xs. flat_map N.bytes_of xs) (λ xs. AllByRecursion N.holds xs) (array_memory N.WIDTH)

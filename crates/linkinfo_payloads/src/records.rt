@@ -3,7 +3,7 @@
 
 ghost use Rattle.std.specs.Prelude.{[], refl};
 ghost use Rattle.linkinfo_shapes.specs.declared.shape.Shape.TheVariants as shape;
-ghost use Rattle.linkinfo_table.specs.Contents.{NoList};
+ghost use Rattle.linkinfo_table.specs.Contents.{single_value};
 ghost use Rattle.linkinfo_payloads.specs.Records.{
   bridge_id_codec,
   bridge_id_fields,
@@ -110,9 +110,11 @@ impl LinkPayload for BridgeId {
 
     ghost needs_memory = { bridge_id_codec.needs_memory };
 
-    ghost contents = { NoList };
+    ghost contents = { single_value };
 
     ghost contained = { tt };
+
+    ghost described = { λ _. refl };
 
     ghost lawful = { bridge_id_payload };
 
@@ -238,9 +240,11 @@ impl LinkPayload for CanBerrCounter {
 
     ghost needs_memory = { can_berr_counter_codec.needs_memory };
 
-    ghost contents = { NoList };
+    ghost contents = { single_value };
 
     ghost contained = { tt };
+
+    ghost described = { λ _. refl };
 
     ghost lawful = { can_berr_counter_payload };
 
@@ -400,9 +404,11 @@ impl LinkPayload for CanBitTiming {
 
     ghost needs_memory = { can_bit_timing_codec.needs_memory };
 
-    ghost contents = { NoList };
+    ghost contents = { single_value };
 
     ghost contained = { tt };
+
+    ghost described = { λ _. refl };
 
     ghost lawful = { can_bit_timing_payload };
 
@@ -573,9 +579,11 @@ impl LinkPayload for CanBitTimingConst {
 
     ghost needs_memory = { can_bit_timing_const_codec.needs_memory };
 
-    ghost contents = { NoList };
+    ghost contents = { single_value };
 
     ghost contained = { tt };
+
+    ghost described = { λ _. refl };
 
     ghost lawful = { can_bit_timing_const_payload };
 

@@ -21,7 +21,7 @@ use Rattle.nla_frame.specs.declared.default_nla.DefaultNla.{DefaultNla}
 use Rattle.linkinfo_shapes.specs.Table.{found}
 use Rattle.linkinfo_shapes.specs.declared.shape.Shape.TheVariants as shape
 use Rattle.linkinfo_table.specs.Codecs.{Codec}
-use Rattle.linkinfo_table.specs.Contents.{Contents, IsContent, NoList, contents_either}
+use Rattle.linkinfo_table.specs.Contents.{Contents, IsContent, single_value, contents_either}
 use Rattle.linkinfo_table.specs.CustomRows.{either_quarter, headers_either}
 use Rattle.linkinfo_table.specs.FamilyRowLaws.{table_flat, table_lookup, table_owes}
 use Rattle.linkinfo_table.specs.FamilyRows.{
@@ -57,13 +57,13 @@ peer_headers = headers_either 1 (λ _. 0) (λ _. 0)
 
 -- nor any list
 abbrev pub peer_contents : ℕ → Contents
-peer_contents = λ n. contents_either 1 NoList (λ _. NoList) n
+peer_contents = λ n. contents_either 1 single_value (λ _. single_value) n
 
 pub peer_contained : (accepts : Attribute → Bool) (alike : Attribute → Attribute → Bool) (n : ℕ) →
     IsContent (peer_contents n) n accepts alike
 peer_contained accepts alike n = go (n == 1)
   where
-    go : (b : Bool) → IsContent (if b then NoList else NoList) n accepts alike
+    go : (b : Bool) → IsContent (if b then single_value else single_value) n accepts alike
     go true = tt
     go false = tt
 

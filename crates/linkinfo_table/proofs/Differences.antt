@@ -291,9 +291,9 @@ pub pair_none : (family : Family) (alike : Bool) (p q : PlacedNla) →
 pair_none family true p q = refl
 pair_none family false p q = refl
 
-own_none : (accepted : Bool) → is_none (own_error accepted) ≡ accepted
-own_none true = refl
-own_none false = refl
+own_none : (accepted : Bool) (place : ℕ) → is_none (own_error accepted place) ≡ accepted
+own_none true place = refl
+own_none false place = refl
 
 pub mapped_none : {A B : Type 0} (f : A → B) (o : Option A) → is_none (option_map f o) ≡ is_none o
 mapped_none f None = refl
@@ -342,7 +342,7 @@ lists_same l inside one_type law same s t h g =
     (λ t a b i j e. refl) tt 0 0 (nla_items s) (nla_items t) h g
 
 pairs_same : (contents : Contents) → PairSame contents
-pairs_same NoList n accepts alike family p q law at other h g =
+pairs_same (NoList place) n accepts alike family p q law at other h g =
     pair_none family (alike p.nla q.nla) p q
 pairs_same (ListOf l inside) n accepts alike family p q law at other h g =
     mapped_none (inner_difference p q) (list_difference l inside p.nla.value q.nla.value)
@@ -368,7 +368,7 @@ lists_accept l inside law same s =
     (nla_items s)
 
 errors_same : (contents : Contents) → ErrorSame contents
-errors_same NoList n accepts alike a law at = own_none (accepts a)
+errors_same (NoList place) n accepts alike a law at = own_none (accepts a) (place a.value)
 errors_same (ListOf l inside) n accepts alike a law at =
     mapped_none (λ k. 4 + k) (list_error l inside a.value)
     ∙ lists_accept l inside law.3 (λ k. errors_same (inside k)) a.value
@@ -388,7 +388,7 @@ module _ (contents : Contents) (accepts : List ℕ → Bool) (alike : List ℕ �
       by_contents : (c : Contents) → IsPayloadContent c accepts alike →
           is_none (payload_difference c family (alike p.nla.value q.nla.value) p q)
           ≡ alike p.nla.value q.nla.value
-      by_contents NoList law = pair_none family (alike p.nla.value q.nla.value) p q
+      by_contents (NoList place) law = pair_none family (alike p.nla.value q.nla.value) p q
       by_contents (ListOf l inside) law =
           mapped_none (inner_difference p q) (list_difference l inside p.nla.value q.nla.value)
           ∙ lists_same l inside law.2 law.3 (λ k. pairs_same (inside k)) p.nla.value q.nla.value
@@ -402,7 +402,7 @@ module _ (contents : Contents) (accepts : List ℕ → Bool) (alike : List ℕ �
     where
       by_contents : (c : Contents) → IsPayloadContent c accepts alike →
           is_none (payload_error c (accepts p) p) ≡ accepts p
-      by_contents NoList law = own_none (accepts p)
+      by_contents (NoList place) law = own_none (accepts p) (place p)
       by_contents (ListOf l inside) law =
           mapped_none (λ k. 4 + k) (list_error l inside p)
           ∙ lists_accept l inside law.3 (λ k. errors_same (inside k)) p

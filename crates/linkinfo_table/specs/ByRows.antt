@@ -22,7 +22,7 @@ use Rattle.nla_frame.specs.declared.error.Family.{Family}
 use Rattle.linkinfo_table.specs.FamilyRows.{EachKeeps, FamilyRow, IsFlat, PlainRow, RowOwes}
 use Rattle.linkinfo_table.specs.FamilyRows.{lookup_of, row_of, table_row}
 use Rattle.linkinfo_table.specs.FamilyRowLaws.{table_flat, table_owes}
-use Rattle.linkinfo_table.specs.Contents.{Contents, IsContent, NoList}
+use Rattle.linkinfo_table.specs.Contents.{Contents, IsContent, single_value}
 use Rattle.linkinfo_table.specs.ErrorNames.{names_list}
 use Rattle.linkinfo_table.specs.FlatLaws.{flat_alike_is, flat_no_memory, flat_read_well}
 use Rattle.linkinfo_table.specs.FlatLaws.{flat_well_attribute, flat_well_reads, none_inside}
@@ -61,7 +61,7 @@ module _ {X : Type 0} (f : Family) (other : DefaultNla → X) (attribute : X →
       members_written_by_rows attribute headers [] contents is_set
 
   abbrev pub members_by_rows : (Attribute → ℕ) → Members X
-  members_by_rows headers = members_with headers (λ _. NoList) false
+  members_by_rows headers = members_with headers (λ _. single_value) false
 
   pub written_are_family : (emitted : X → Attribute) → ((x : X) → emitted x ≡ attribute x) →
       ((n : ℕ) → RowOwes attribute n (row_of (rows n))) →
@@ -110,11 +110,11 @@ module _ {X : Type 0} (f : Family) (other : DefaultNla → X) (attribute : X →
   pub table_is_family :
       ((d : DefaultNla) → attribute (other d) ≡ record { kind = d.kind; value = d.value }) →
       {is_set : Bool} →
-      IsFamily (members_with f other attribute (λ n. table_row table n) (λ _. 0) (λ _. NoList)
+      IsFamily (members_with f other attribute (λ n. table_row table n) (λ _. 0) (λ _. single_value)
       is_set)
   table_is_family keeps_other {is_set = is_set} =
       rows_are_family f other attribute (λ n. table_row table n) (table_owes attribute table keeps)
-      keeps_other (λ _. 0) none_inside (λ _. NoList) is_set (λ _. tt)
+      keeps_other (λ _. 0) none_inside (λ _. single_value) is_set (λ _. tt)
 
   pub table_names : (s : List ℕ) →
       EachNames f (values (meaning_in f other (λ n. row_of (table_row table n))) (nla_items s))

@@ -35,11 +35,16 @@ pub record Listed : Type 0 where
   -- whether a request for the list is one for all of it
   pub is_whole : Bool
 
--- What a payload contains: no list, or a list of such attributes, of which those of each type
--- without flag bits contain these in turn.
+-- What a payload contains: no list of a family, or a list of such attributes, of which those of
+-- each type without flag bits contain these in turn. The error of a rejected payload without such a
+-- list is at a place that the payload says, from the header of its attribute.
 pub data Contents : Type 0 where
-  NoList : Contents
+  NoList : (List ℕ → ℕ) → Contents
   ListOf : Listed → (ℕ → Contents) → Contents
+
+-- a single value, whose error is at the attribute's header
+abbrev pub single_value : Contents
+single_value = NoList (λ _. 0)
 
 -- attributes of a family, by what it defines
 abbrev pub listed : {X : Type 0} → Family → (Attribute → Result X DecodeError) →
@@ -73,7 +78,7 @@ each_accepted accepts ps = accepted_under (λ _ a. accepts a) (λ t _. t) (tt {0
 -- a list is accepted if each attribute in it is, and equivalent to one of its type with equivalent
 -- attributes, in order.
 abbrev pub IsContent : Contents → ℕ → (Attribute → Bool) → (Attribute → Attribute → Bool) → Type 0
-IsContent NoList number accepts alike = Unit {0}
+IsContent (NoList place) number accepts alike = Unit {0}
 IsContent (ListOf l inside) number accepts alike =
     ((a : Attribute) → masked a.kind ≡ number →
     accepts a ≡ each_accepted l.accepts (nla_items a.value))
@@ -86,7 +91,7 @@ IsContent (ListOf l inside) number accepts alike =
 
 -- What payloads contain that are accepted and compared so.
 abbrev pub IsPayloadContent : Contents → (List ℕ → Bool) → (List ℕ → List ℕ → Bool) → Type 0
-IsPayloadContent NoList accepts alike = Unit {0}
+IsPayloadContent (NoList place) accepts alike = Unit {0}
 IsPayloadContent (ListOf l inside) accepts alike =
     ((p : List ℕ) → accepts p ≡ each_accepted l.accepts (nla_items p))
     × ((p q : List ℕ) → alike p q ≡ alike_pairs l.alike (nla_items p) (nla_items q))

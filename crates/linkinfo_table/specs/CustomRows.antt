@@ -94,7 +94,7 @@ module _ {F Context X : Type 0} (own : family.Ghosts F Context) (c : Context) (n
   row_contained : (contents : Contents) →
       IsPayloadContent contents (λ p. is_ok (held.means p)) held.alike →
       IsContent contents number (λ a. is_ok (meaning_by own c a)) (alike_by own c)
-  row_contained NoList law = tt
+  row_contained (NoList place) law = tt
   row_contained (ListOf l inside) law = (
     λ a typed.
         row_accepts (own.rows c) a number typed row own.FAMILY own.other ∙ law.0 a.value,

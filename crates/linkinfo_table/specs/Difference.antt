@@ -112,7 +112,7 @@ payloads_difference family pair s t =
 -- The difference of two attributes of one type in a family: of their lists if they contain lists,
 -- otherwise of the whole, if they are not equivalent.
 abbrev pub payload_difference : Contents → Family → Bool → PlacedNla → PlacedNla → Option Difference
-payload_difference NoList family alike p q = pair_difference family alike p q
+payload_difference (NoList place) family alike p q = pair_difference family alike p q
 payload_difference (ListOf l inside) family alike p q =
     option_map (inner_difference p q)
     (payloads_difference l.family (λ x y.
@@ -142,18 +142,18 @@ error_offset inside after t n ((Ok a) ∷ more) =
     first_or (option_map (λ k. n + k) (inside t a))
     (error_offset inside after (after t a) (n + aligned (4 + length a.value)) more)
 
--- the error of an attribute that is rejected as a whole is at its header
-abbrev pub own_error : Bool → Option ℕ
-own_error accepted = if accepted then None else Some 0
+-- the error of an attribute that is rejected as a whole, given its place from the header
+abbrev pub own_error : Bool → ℕ → Option ℕ
+own_error accepted place = if accepted then None else Some place
 
 -- the offset of a payload's error, given the offset of each attribute's error from its header
 abbrev pub each_error : (Attribute → Option ℕ) → List ℕ → Option ℕ
 each_error inside s = error_offset (λ _ a. inside a) stays tt 0 (nla_items s)
 
 -- The offset of an attribute's error from its header, by its payload: in its list if it contains
--- one, otherwise 0, if it is not accepted.
+-- one, otherwise the place that its contents say, if it is not accepted.
 abbrev pub payload_error : Contents → Bool → List ℕ → Option ℕ
-payload_error NoList accepted p = own_error accepted
+payload_error (NoList place) accepted p = own_error accepted (place p)
 payload_error (ListOf l inside) accepted p =
     option_map (λ k. 4 + k)
     (each_error (λ a. payload_error (inside (masked a.kind)) (l.accepts a) a.value) p)

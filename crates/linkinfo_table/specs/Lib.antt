@@ -7,6 +7,7 @@ pub mod Codecs
 pub mod Conditions
 pub mod Contents
 pub mod CustomRows
+pub mod Described
 pub mod Difference
 pub mod Equal
 pub mod ErrorMemory

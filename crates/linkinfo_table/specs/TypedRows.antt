@@ -75,6 +75,7 @@ use Rattle.linkinfo_table.specs.Rows.{
   row_needs_memory,
   written_kind,
 }
+use Rattle.linkinfo_table.specs.declared.lookup.Lookup.TheVariants as lookup
 
 -- a row that the table of shapes reads, or one with a payload of a type of its own
 abbrev pub IsTyped : {F : Type 0} → List Family → FamilyRow F → Type 0
@@ -176,10 +177,11 @@ peer_unflagged shape nested number h is =
     go true e = absurd cc
     go false e = refl
 
--- What an attribute of the row means is what its payload means; so are equivalence and need of
--- memory those of payloads.
+-- The row has the shape. What an attribute of the row means is what its payload means; so are
+-- equivalence and need of memory those of payloads.
 pub record HasPayload {F : Type 0} (r : FamilyRow F) (shape : Shape) (nested : Bool) (codec : Codec)
     (label : codec.Carrier → F) : Type 0 where
+  pub looked_up : lookup_of r ≡ lookup.Is shape
   pub means : (f : Family) (other : DefaultNla → F) (a : Attribute) →
       row_meaning f other (row_of r) a ≡ labelled f (masked a.kind) label (codec.means a.value)
   pub needs_memory : (a : Attribute) → row_needs_memory (row_of r) a ≡ codec.needs_memory a.value
@@ -192,6 +194,7 @@ pub has_payload : {F : Type 0} {shape : Shape} {nested : Bool} {codec : Codec}
     {label : codec.Carrier → F} →
     HasPayload (Custom shape nested codec label) shape nested codec label
 has_payload {shape = shape} {nested = nested} = record {
+  looked_up = refl;
   means = λ f other a. refl;
   needs_memory = λ a. refl;
   alike = λ a b. refl;

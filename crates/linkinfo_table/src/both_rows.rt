@@ -2,6 +2,7 @@
 
 ghost use Rattle.std.specs.Prelude.{◌≡◌, ◌*◌, ◌≤◌, ◌||◌, ◌++◌};
 ghost use Rattle.nla_frame.specs.Attribute.{masked};
+ghost use Rattle.linkinfo_table.specs.Described.{both_contain};
 ghost use Rattle.linkinfo_table.specs.BothRows.{
   both_contained,
   both_quarter,
@@ -45,6 +46,10 @@ impl<F: RowFamily, A: CustomRows<F>, B: CustomRows<F>> CustomRows<F> for Both<A,
     ghost contained = { λ c n.
         both_contained F.RowFamily.own c n A.owned A.contents B.contents (A.contained c n)
         (B.contained c n) };
+
+    ghost described = { λ c n.
+        both_contain F.RowFamily.FAMILY (F.rows c n) (A.owned n) (B.owned n) (A.contents n)
+        (B.contents n) (A.described c n) (B.described c n) };
 
     ghost quarter = { λ a.
         both_quarter A.owned A.headers B.headers A.quarter B.quarter a };

@@ -24,6 +24,7 @@ ghost use Rattle.std.specs.Prelude.{
   SomeIff,
   is_ok,
   length,
+  refl,
 };
 ghost use Rattle.nla_frame.specs.Answers.{verdict};
 ghost use Rattle.nla_frame.specs.Attribute.{Attribute, Fits, buffer_len_of, masked};
@@ -32,8 +33,8 @@ ghost use Rattle.linkinfo_table.specs.Calls.{Checks, Compares, Pushes, Reads};
 ghost use Rattle.linkinfo_table.specs.Contents.{
   Contents,
   IsContent,
-  NoList,
   contents_either,
+  single_value,
 };
 ghost use Rattle.linkinfo_table.specs.CustomRows.{
   either_contained,
@@ -41,6 +42,11 @@ ghost use Rattle.linkinfo_table.specs.CustomRows.{
   headers_either,
   none_owned,
   row_typed,
+};
+ghost use Rattle.linkinfo_table.specs.Described.{
+  LookupContains,
+  either_contains,
+  flat_contains,
 };
 ghost use Rattle.linkinfo_table.specs.Difference.{
   IsWithin,
@@ -54,7 +60,7 @@ ghost use Rattle.linkinfo_table.specs.FamilyMeaning.{
   meaning_by,
   memory_by,
 };
-ghost use Rattle.linkinfo_table.specs.FamilyRows.{IsFlat};
+ghost use Rattle.linkinfo_table.specs.FamilyRows.{IsFlat, lookup_of};
 ghost use Rattle.linkinfo_table.specs.FlatLaws.{none_inside};
 ghost use Rattle.linkinfo_table.specs.TypedRows.{IsTyped};
 ghost use Rattle.linkinfo_table.specs.Unmet.{IsUnmetWithin, attribute_unmet};
@@ -273,6 +279,9 @@ pub trait CustomRows<F: RowFamily> {
         IsContent (contents n) n (λ a. is_ok (meaning_by F.RowFamily.own c a))
         (alike_by F.RowFamily.own c) };
 
+    ghost described: { (c : F.Context) (n : ℕ) → (owned n ≡ false → IsFlat (F.rows c n)) →
+        LookupContains F.FAMILY (lookup_of (F.rows c n)) (contents n) };
+
     ghost quarter: { (a : Attribute) → 4 * headers a ≤ length a.value };
 }
 
@@ -285,11 +294,13 @@ impl<F: RowFamily> CustomRows<F> for () {
 
     ghost headers = { λ _. 0 };
 
-    ghost contents = { λ _. NoList };
+    ghost contents = { λ _. single_value };
 
     ghost typed = { λ _ _. none_owned };
 
     ghost contained = { λ _ _. tt };
+
+    ghost described = { λ c n flat. flat_contains F.RowFamily.FAMILY (F.rows c n) (flat refl) };
 
     ghost quarter = { none_inside };
 
@@ -410,6 +421,11 @@ impl<F: RowFamily, R: PayloadRow<F>, Rest: CustomRows<F>> CustomRows<F> for (R, 
     ghost contained = { λ c n.
         either_contained F.RowFamily.own c R.NUMBER R.Payload.LinkPayload.own R.label R.NESTED
         (R.row_is c) R.Payload.contained Rest.contents (Rest.contained c) n };
+
+    ghost described = { λ c n.
+        either_contains F.RowFamily.FAMILY (F.rows c) R.NUMBER R.Payload.shape R.Payload.contents
+        Rest.owned Rest.contents (R.row_is c).looked_up
+        (R.Payload.described F.RowFamily.FAMILY) n (Rest.described c n) };
 
     ghost quarter = { λ a.
         either_quarter R.NUMBER R.Payload.headers Rest.headers

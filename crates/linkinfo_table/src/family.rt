@@ -41,6 +41,7 @@ ghost use Rattle.nla_frame.specs.declared.error.Family.{Family};
 ghost use Rattle.nla_frame.specs.Writing.{WritesAttribute};
 ghost use Rattle.linkinfo_table.specs.Calls.{Checks, Compares, Pushes, Reads};
 ghost use Rattle.linkinfo_table.specs.Contents.{Contents};
+ghost use Rattle.linkinfo_table.specs.Described.{LookupContains};
 ghost use Rattle.linkinfo_table.specs.Difference.{
   IsWithin,
   attribute_difference,
@@ -234,6 +235,9 @@ pub trait LinkFamily: Nla + Sized + Drop {
     ghost lawful: { (c : Self.Context) →
         IsFamily (members_at FAMILY inside meaning headers alike needs_memory Self.attribute well
         contents IS_SET c) };
+
+    ghost described: { (c : Self.Context) (n : ℕ) →
+        LookupContains FAMILY (lookup c n) (contents c n) };
 
     ghost error_certain: { (c : Self.Context) (a : Attribute) (e : DecodeError) →
         HoldsNone (lookup c (masked a.kind)) → meaning c a ≡ Err e → needs_memory c a ≡ false };

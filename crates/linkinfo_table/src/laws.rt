@@ -22,6 +22,7 @@ ghost use Rattle.nla_frame.specs.NlaItems.{nla_items};
 ghost use Rattle.nla_frame.specs.declared.default_nla.DefaultNla.{DefaultNla};
 ghost use Rattle.nla_frame.specs.declared.error.DecodeError.{DecodeError};
 ghost use Rattle.linkinfo_table.specs.Conditions.{opaque_conditions};
+ghost use Rattle.linkinfo_table.specs.Described.{LookupContains};
 ghost use Rattle.linkinfo_table.specs.FamilyRows.{SameDecoded, SameEncodable};
 ghost use Rattle.linkinfo_table.specs.Named.{EachNamed};
 ghost use Rattle.linkinfo_table.specs.declared.decoded.Decoded.{Decoded};
@@ -101,8 +102,9 @@ pub fn lawful<F: LinkFamily>()
 {}
 
 /// The result of `LinkFamily::shape` for an attribute's type without flag bits agrees with what the
-/// attribute means (`LookupSays`). The attribute's own error, any but one of a list inside it, has
-/// the family and that type.
+/// attribute means (`LookupSays`), and with what it contains, where its error is looked for, and in
+/// which list it is compared (`LookupContains`). The attribute's own error, any but one of a list
+/// inside it, has the family and that type.
 pub fn looked_up<F: LinkFamily>(ctx: F::Context)
     ensures says { (a : Attribute) →
         LookupSays F.FAMILY F.inside F.keeping F.attribute F.meaning a
@@ -111,6 +113,8 @@ pub fn looked_up<F: LinkFamily>(ctx: F::Context)
     ensures own_error { (a : Attribute) (e : DecodeError) →
         HoldsNoList (F.lookup ctx (masked a.kind)) → F.meaning ctx a ≡ Err e →
         (e.family ≡ F.FAMILY) × (e.kind ≡ masked a.kind) }
+    ensures contains { (number : ℕ) →
+        LookupContains F.FAMILY (F.lookup ctx number) (F.contents ctx number) }
 {}
 
 /// Each error of an attribute, of a list of attributes and of a first attribute either is that of a

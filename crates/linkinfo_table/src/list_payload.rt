@@ -1,6 +1,6 @@
 //! A list of attributes of another family as a payload.
 
-ghost use Rattle.std.specs.Prelude.{◌∷◌, map};
+ghost use Rattle.std.specs.Prelude.{◌∷◌, map, refl};
 ghost use Rattle.nla_frame.specs.Attribute.{list_string};
 ghost use Rattle.nla_frame.specs.NlaItems.{nla_items};
 ghost use Rattle.linkinfo_table.specs.Contents.{ListOf, listed};
@@ -47,6 +47,8 @@ impl<F: LinkFamily<Context = ()> + Eq + ExactEq> LinkPayload for Nlas<F> {
     ghost contained = { list_contained F.LinkFamily.FAMILY F.LinkFamily.inside F.meaning F.headers
         F.alike F.needs_memory F.attribute F.well F.contents F.LinkFamily.IS_SET
         (F.LinkFamily.lawful tt) };
+
+    ghost described = { λ _. refl };
 
     ghost lawful = { list_is_payload F.LinkFamily.FAMILY F.LinkFamily.inside F.keeping F.lookup
         F.meaning F.headers F.alike F.needs_memory F.attribute F.well F.contents

@@ -10,7 +10,7 @@ use nla_frame::{DecodeError, HeaderCount, next_attribute};
 
 /// The offset of an attribute's error from its header, if the error is the attribute's own.
 pub fn whole_error(verdict: Result<(), DecodeError>) -> Option<usize>
-    ensures { result ≡ own_error (is_ok verdict) }
+    ensures { result ≡ own_error (is_ok verdict) 0 }
 {
     match verdict {
         Ok(()) => None,

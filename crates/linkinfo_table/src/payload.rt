@@ -24,6 +24,7 @@ ghost use Rattle.nla_frame.specs.Writing.{Writes};
 ghost use Rattle.linkinfo_table.specs.Calls.{Checks, Compares, Reads};
 ghost use Rattle.linkinfo_table.specs.Codecs.{PayloadError};
 ghost use Rattle.linkinfo_table.specs.Contents.{Contents, IsPayloadContent};
+ghost use Rattle.linkinfo_table.specs.Described.{ShapeContains};
 ghost use Rattle.linkinfo_table.specs.Difference.{
   IsWithin,
   end_of,
@@ -188,6 +189,9 @@ pub trait LinkPayload: Sized + Eq + ExactEq + Drop {
 
     /// What payloads contain agrees with which are accepted, and which two are equivalent.
     ghost contained: { IsPayloadContent contents (λ p. is_ok (means p)) alike };
+
+    /// What payloads contain is what their shape says.
+    ghost described: { (family : Family) → ShapeContains family shape contents };
 
     ghost lawful: { IsPayload shape inside
         (codec_with means canon holds alike headers needs_memory) };

@@ -1,10 +1,10 @@
 //! A peer as a payload.
 
-ghost use Rattle.std.specs.Prelude.{◌≡◌, [], true};
+ghost use Rattle.std.specs.Prelude.{◌≡◌, [], refl, true};
 ghost use Rattle.nla_frame.specs.Error.{memory_error};
 ghost use Rattle.nla_frame.specs.declared.error.Cause.TheVariants as cause;
 ghost use Rattle.linkinfo_shapes.specs.declared.shape.Shape.TheVariants.{Peer};
-ghost use Rattle.linkinfo_table.specs.Contents.{NoList};
+ghost use Rattle.linkinfo_table.specs.Contents.{single_value};
 ghost use Rattle.linkinfo_table.specs.Peers.{peer_is_payload, peer_or_error};
 
 use crate::difference::{Difference, whole_difference};
@@ -33,9 +33,11 @@ impl<P: LinkPeer> LinkPayload for P {
 
     ghost needs_memory = { λ _. true };
 
-    ghost contents = { NoList };
+    ghost contents = { single_value };
 
     ghost contained = { tt };
+
+    ghost described = { λ _. refl };
 
     ghost lawful = { peer_is_payload P.LinkPeer.meaning P.LinkPeer.alike P.LinkPeer.canonical
         P.LinkPeer.well P.LinkPeer.lawful };

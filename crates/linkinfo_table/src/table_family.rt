@@ -81,6 +81,8 @@ impl<F: TableFamily> LinkFamily for F {
         (F.flat_elsewhere c)) (F.owes c) F.keeps_other F.Custom.quarter).laws
         F.RowFamily.FAMILY F.Custom.contents F.TableFamily.IS_SET (F.Custom.contained c) };
 
+    ghost described = { λ c n. F.Custom.described c n (F.flat_elsewhere c n) };
+
     ghost error_certain = { λ c.
         (table_lawful F.other F.canonical F.attribute F.written (F.rows c) F.Custom.headers
         F.Custom.inside (each_typed (F.rows c) F.Custom.inside F.Custom.owned (F.Custom.typed c)

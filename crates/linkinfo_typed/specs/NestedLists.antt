@@ -22,9 +22,17 @@ use Rattle.linkinfo_shapes.specs.declared.shape.Shape.{Shape}
 use Rattle.linkinfo_table.specs.ByRows.{members_written_by_rows}
 use Rattle.linkinfo_table.specs.Contents.{Contents}
 use Rattle.linkinfo_table.specs.FamilyRows.{FamilyRow, row_of}
-use Rattle.linkinfo_table.specs.Lists.{◌>>=◌, alike_pairs, headers_of, values}
+use Rattle.linkinfo_table.specs.Lists.{◌>>=◌, alike_pairs, headers_of, memory_of, values}
 use Rattle.linkinfo_table.specs.Members.{Members, list_of, listed_of}
-use Rattle.linkinfo_table.specs.Rows.{alike_in, labelled, meaning_in, row_alike, row_meaning}
+use Rattle.linkinfo_table.specs.Rows.{
+  alike_in,
+  labelled,
+  meaning_in,
+  memory_in,
+  row_alike,
+  row_meaning,
+  row_needs_memory,
+}
 use Rattle.linkinfo_table.specs.SelfList.{inside}
 use Rattle.linkinfo_table.specs.TypedRows.{HasPayload}
 
@@ -37,6 +45,9 @@ pub record HoldsListOf {X Y : Type 0} (f : Members X) (inner : Members Y) (numbe
   -- the headers in its payload are counted
   pub headers : (a : Attribute) → masked a.kind ≡ number →
       f.headers a ≡ headers_of inner.meaning inner.headers (nla_items a.value)
+  -- reading it needs memory where reading the list does
+  pub needs_memory : (a : Attribute) → masked a.kind ≡ number →
+      f.needs_memory a ≡ memory_of inner.meaning inner.needs_memory (nla_items a.value)
   -- it is equivalent to one of its type with a list of equivalent attributes, in order
   pub alike : (a b : Attribute) → masked a.kind ≡ number →
       f.alike a b
@@ -68,6 +79,15 @@ module _ {X Y : Type 0} (family : Family) (other : DefaultNla → X) (rows : ℕ
       subst (λ (n : ℕ). row_meaning family other (row_of (rows n)) a
       ≡ (values inner.meaning (nla_items a.value) >>= λ xs. Ok (label xs))) (sym typed)
       (row.means family other a ∙ labels (masked a.kind) (values inner.meaning (nla_items a.value)))
+
+  pub row_remembers :
+      memory_in (λ n. row_of (rows n)) a
+      ≡ memory_of inner.meaning inner.needs_memory (nla_items a.value)
+  unfolding memory_in
+  row_remembers =
+      subst (λ (n : ℕ). row_needs_memory (row_of (rows n)) a
+      ≡ memory_of inner.meaning inner.needs_memory (nla_items a.value)) (sym typed)
+      (row.needs_memory a)
 
   pub row_is_alike : (b : Attribute) →
       alike_in (λ n. row_of (rows n)) a b
@@ -103,6 +123,8 @@ holds_list family other attribute rows headers inner shape nested number kind la
     contains = record {
       means = row_means family other rows inner shape nested number label row;
       headers = λ a typed. ap (λ (n : ℕ). headers n a.value) typed ∙ count a.value;
+      needs_memory = λ a typed.
+          row_remembers family other rows inner shape nested number label row a typed;
       alike = λ a b typed.
           row_is_alike family other rows inner shape nested number label row a typed b;
       contains = contains;

@@ -34,7 +34,15 @@ use Rattle.linkinfo_table.specs.FamilyRows.{
   row_of,
 }
 use Rattle.linkinfo_table.specs.Members.{Members}
-use Rattle.linkinfo_table.specs.Rows.{alike_in, labelled, meaning_in, row_alike, row_meaning}
+use Rattle.linkinfo_table.specs.Rows.{
+  alike_in,
+  labelled,
+  meaning_in,
+  memory_in,
+  row_alike,
+  row_meaning,
+  row_needs_memory,
+}
 use Rattle.linkinfo_table.specs.TypedRows.{HasPayload, with_row}
 use Rattle.linkinfo_table.specs.declared.decoded.Decoded.{Decoded}
 use Rattle.linkinfo_table.specs.declared.decoded.Decoded.TheVariants as decoded
@@ -94,6 +102,9 @@ pub record HoldsPayload {X : Type 0} (f : Members X) (codec : Codec) (number kin
       f.meaning a ≡ labelled f.family number label (codec.means a.value)
   -- the headers in its payload are counted
   pub headers : (a : Attribute) → masked a.kind ≡ number → f.headers a ≡ codec.headers a.value
+  -- reading it needs memory where reading its payload does
+  pub needs_memory : (a : Attribute) → masked a.kind ≡ number →
+      f.needs_memory a ≡ codec.needs_memory a.value
   -- it is equivalent to one of its type with an equivalent payload
   pub alike : (a b : Attribute) → masked a.kind ≡ number →
       f.alike a b ≡ ((masked b.kind == number) && codec.alike a.value b.value)
@@ -116,6 +127,13 @@ module _ {X : Type 0} (family : Family) (other : DefaultNla → X) (rows : ℕ �
       ≡ labelled family number label (codec.means a.value)) (sym typed)
       (row.means family other a
       ∙ ap (λ (n : ℕ). labelled family n label (codec.means a.value)) typed)
+
+  row_remembers :
+      memory_in (λ n. row_of (rows n)) a ≡ codec.needs_memory a.value
+  unfolding memory_in
+  row_remembers =
+      subst (λ (n : ℕ). row_needs_memory (row_of (rows n)) a ≡ codec.needs_memory a.value)
+      (sym typed) (row.needs_memory a)
 
   row_is_alike : (b : Attribute) →
       alike_in (λ n. row_of (rows n)) a b
@@ -141,6 +159,8 @@ holds_payload family other attribute rows headers codec shape nested number kind
     keeps = record {
       means = row_means family other rows codec shape nested number label row;
       headers = λ a typed. ap (λ (n : ℕ). headers n a.value) typed ∙ count a.value;
+      needs_memory = λ a typed.
+          row_remembers family other rows codec shape nested number label row a typed;
       alike = λ a b typed.
           row_is_alike family other rows codec shape nested number label row a typed b;
       written = keeps;

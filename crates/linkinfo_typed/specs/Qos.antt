@@ -5,7 +5,7 @@ use Rattle.nla_frame.specs.Attribute.{Attribute}
 use Rattle.nla_frame.specs.Kept.{attribute_of}
 use Rattle.nla_frame.specs.declared.error.Family.TheVariants as family
 use Rattle.linkinfo_table.specs.ByRows.{members_with, table_is_family}
-use Rattle.linkinfo_table.specs.Contents.{NoList}
+use Rattle.linkinfo_table.specs.Contents.{single_value}
 use Rattle.linkinfo_table.specs.FamilyRows.{PlainRow, row, table_row, typed, EachKeeps}
 use Rattle.linkinfo_table.specs.Members.{IsFamily, Members}
 use Rattle.linkinfo_shapes.specs.declared.shape.Shape.TheVariants.{FlagPair}
@@ -30,7 +30,7 @@ vlan_qos_mapping_keeps = each_keeps vlan_qos_mapping_attribute vlan_qos_mapping_
 abbrev pub vlan_qos_mapping_members : Members VlanQosMapping
 vlan_qos_mapping_members =
     members_with family.VlanQosMapping (λ d. Other d) vlan_qos_mapping_attribute
-    (λ n. table_row vlan_qos_mapping_rows n) (λ _. 0) (λ _. NoList) true
+    (λ n. table_row vlan_qos_mapping_rows n) (λ _. 0) (λ _. single_value) true
 
 pub vlan_qos_mapping_lawful : IsFamily vlan_qos_mapping_members
 vlan_qos_mapping_lawful =

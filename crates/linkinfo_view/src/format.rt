@@ -115,7 +115,8 @@ pub enum Format {
     /// The names of the flags that are set in the first of two numbers; flags without a name in
     /// hex. The second, a mask, is a member of its own.
     Names(Flags),
-    /// The same of the second number, and the first is the mask (`struct can_ctrlmode`).
+    /// The names of the flags that are set in the second of two numbers; flags without a name in
+    /// hex. The first, a mask, is a member of its own (`struct can_ctrlmode`).
     SecondNames(Flags),
     /// Eight bytes, a priority and a hardware address (`struct ifla_bridge_id`).
     BridgeId,

@@ -4,7 +4,7 @@
 mod limited;
 
 use linkinfo::compat::AllocError;
-use linkinfo::{LinkPeer, ToVecError, VecLinkInfoOf};
+use linkinfo::{DataLayer, ToVecError, VecLinkInfoOf};
 use std::fmt;
 
 pub use linkinfo::compat::{ToUnsigned, TryVec};
@@ -47,7 +47,7 @@ impl<T: Copy> TryToVec for [T] {
     }
 }
 
-impl<P: LinkPeer> TryToVec for VecLinkInfoOf<P> {
+impl<P: DataLayer> TryToVec for VecLinkInfoOf<P> {
     type Written = Result<Vec<u8>, ToVecError>;
 
     fn try_to_vec(&self) -> Self::Written {

@@ -7,7 +7,7 @@ use super::rows::{
     list_is_written_as, refuses_list,
 };
 use linkinfo_payloads::Addresses;
-use linkinfo_table::{Shape, list_read};
+use linkinfo_table::{Shape, list_error, list_read};
 use linkinfo_typed::InfoBond;
 use nla_frame::{Cause, DecodeError, DefaultNla, Family, HeaderCount, Nla};
 use std::alloc::Global;
@@ -205,7 +205,7 @@ const OF_TARGET: DecodeError = DecodeError {
     cause: Cause::Length,
 };
 
-/// The same of a target of neighbor solicitations.
+/// The error of a target of neighbor solicitations of another length.
 const OF_SOLICITED: DecodeError = DecodeError {
     family: Family::Bond,
     kind: 31,
@@ -241,6 +241,52 @@ fn rejected_lists(rt: HostRuntime) {
         let expected = checked.err().expect(&rt, "an error");
         refuses_list::<InfoBond>(&rt, rt.alloc(), (), bytes, (expected, *headers));
     }
+}
+
+/// Lists that are rejected, each in an attribute after eight bytes, and the offset of the error:
+/// that of the attribute if an address has another length, otherwise that of the bytes that are no
+/// header.
+const LOCATED: &[(&[u8], usize)] = &[
+    // Five bytes after an address of five.
+    (
+        &[
+            5, 0, 1, 0, 1, 0, 0, 0, 13, 0, 8, 0, 9, 0, 3, 0, 10, 0, 0, 1, 0,
+        ],
+        8,
+    ),
+    // An address, and a stray byte.
+    (
+        &[
+            5, 0, 1, 0, 1, 0, 0, 0, 13, 0, 8, 0, 8, 0, 0, 0, 10, 0, 0, 1, 1,
+        ],
+        20,
+    ),
+    // A header that is longer than the list.
+    (&[5, 0, 1, 0, 1, 0, 0, 0, 8, 0, 8, 0, 9, 0, 0, 0], 12),
+    // An address, an attribute with three bytes, and a stray byte.
+    (
+        &[
+            5, 0, 1, 0, 1, 0, 0, 0, 21, 0, 8, 0, 8, 0, 0, 0, 10, 0, 0, 1, 7, 0, 0, 0, 1, 2, 3, 0, 1,
+        ],
+        8,
+    ),
+    // An IPv4 address where IPv6 addresses are.
+    (
+        &[
+            5, 0, 1, 0, 1, 0, 0, 0, 12, 0, 31, 0x80, 8, 0, 0, 0, 10, 0, 0, 1,
+        ],
+        8,
+    ),
+];
+
+#[test]
+fn errors_have_an_offset(rt: HostRuntime) {
+    for (bytes, offset) in LOCATED {
+        let found = list_error::<InfoBond>(bytes, ());
+        assert_is(&rt, bytes, found, Some(*offset));
+    }
+    let found = list_error::<InfoBond>(CANONICAL, ());
+    assert_is(&rt, CANONICAL, found, None);
 }
 
 #[test]

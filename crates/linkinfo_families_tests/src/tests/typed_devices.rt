@@ -1,5 +1,6 @@
 //! Typed attributes of `tun`, `hsr` and `dsa` links.
 
+use super::lengths::has_only_length;
 use super::rows::{
     HasExample, HoldsOthers, UNLISTED, has_one_length, has_rows, has_rows_and_others, has_shapes,
     is_list, list_is_written_as,
@@ -139,4 +140,34 @@ fn rows_of_dsa(rt: HostRuntime) {
     let rows: &[(&[u8], &str)] = &[(&[8, 0, 1, 0, 4, 3, 2, 1], "Conduit(16909060)")];
     has_rows_and_others::<InfoDsa>(&rt, alloc, rows, UNLISTED, &[8, 0, 1, 0, 7, 0, 0, 0]);
     has_one_length::<InfoDsa>(&rt, alloc, (), &[8, 0, 1, 0, 7, 0, 0, 0]);
+}
+
+#[test]
+fn every_length(rt: HostRuntime) {
+    for (kind, length) in [
+        (1, 4),
+        (2, 4),
+        (3, 1),
+        (4, 1),
+        (5, 1),
+        (6, 1),
+        (7, 1),
+        (8, 4),
+        (9, 4),
+    ] {
+        has_only_length::<InfoTun>(&rt, kind, length);
+    }
+    for (kind, length) in [
+        (1, 4),
+        (2, 4),
+        (3, 1),
+        (4, 6),
+        (5, 2),
+        (6, 1),
+        (7, 1),
+        (8, 4),
+    ] {
+        has_only_length::<InfoHsr>(&rt, kind, length);
+    }
+    has_only_length::<InfoDsa>(&rt, 1, 4);
 }

@@ -4,7 +4,10 @@ use super::assertions::{
     assert_built, assert_equal, assert_holds, assert_reads, bytes_of, link, list_of, nlas, parsed,
 };
 use super::worked::{EMPTY_NAME, LATER_KIND, OTHER_PORT, PORT_DATA, VETH, XFRM, XSTATS};
-use linkinfo::{InfoData, InfoKind, InfoXfrm, LinkInfo, Nla, Nlas, VecLinkInfo, nlas_fit_len};
+use linkinfo::families::DataLayer;
+use linkinfo::{
+    InfoData, InfoKind, InfoXfrm, LinkInfo, Nla, Nlas, VecLinkInfo, VecLinkInfoOf, nlas_fit_len,
+};
 use std::alloc::Global;
 use std::fmt::Debug;
 use std::process::Abort;
@@ -83,7 +86,16 @@ fn writes_a_list_in_one_call(rt: HostRuntime) {
 }
 
 /// Asserts the types of the attributes of the list, in order.
-fn assert_types(rt: &impl Abort, alloc: Global, list: &VecLinkInfo, wanted: &[u16]) {
+fn assert_types<P: DataLayer>(
+    rt: &impl Abort,
+    alloc: Global,
+    list: &VecLinkInfoOf<P>,
+    wanted: &[u16],
+)
+where
+    P::Data: PartialEq,
+    P::PortData: PartialEq,
+{
     let mut types = Vec::new(alloc);
     for item in list {
         types.push(item.kind()).expect(rt, "memory");
@@ -107,18 +119,33 @@ fn collected<T: Drop>(rt: &impl Abort, alloc: Global, items: vec::IntoIter<T>) -
 }
 
 /// Asserts the attributes of the list by reference and by value, and their number.
-fn assert_iterated(rt: &impl Abort, alloc: Global, text: &str, types: &[u16]) {
-    let list = parsed(rt, alloc, &bytes_of(rt, alloc, text));
+///
+/// The layer is a parameter, so that all of it is needed in one call of a test.
+fn assert_iterated<P: DataLayer + Clone>(
+    rt: &impl Abort,
+    alloc: Global,
+    list: VecLinkInfoOf<P>,
+    types: &[u16],
+)
+where
+    P::Data: PartialEq + Clone,
+    P::PortData: PartialEq + Clone,
+{
     assert_types(rt, alloc, &list, types);
     let copy = list.clone().expect(rt, "memory");
-    let items = VecLinkInfo::from(collected(rt, alloc, copy.into_iter()));
-    assert_holds(rt, &text, items == list);
-    assert_equal(rt, &text, &list.into_vec().len(), &types.len());
+    let items = VecLinkInfoOf::from(collected(rt, alloc, copy.into_iter()));
+    assert_holds(rt, &types, items == list);
+    assert_equal(rt, &types, &list.into_vec().len(), &types.len());
 }
+
+/// Lists, and the types of their attributes.
+const ITERATED: &[(&str, &[u16])] = &[(LATER_KIND, &[1, 1, 2]), ("", &[])];
 
 #[test]
 fn iterates_over_a_list(rt: HostRuntime) {
     let alloc = rt.alloc();
-    assert_iterated(&rt, alloc, LATER_KIND, &[1, 1, 2]);
-    assert_iterated(&rt, alloc, "", &[]);
+    for (text, types) in ITERATED {
+        let list = parsed(&rt, alloc, &bytes_of(&rt, alloc, text));
+        assert_iterated(&rt, alloc, list, types);
+    }
 }

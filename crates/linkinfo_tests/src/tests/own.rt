@@ -2,9 +2,9 @@
 
 use super::assertions::{assert_emitted, assert_equal, assert_parses, bytes_of, nlas};
 use crate::{AnyLayer, AnyPeer};
-use linkinfo::families::Layered;
+use linkinfo::families::{DataLayer, Layered};
 use linkinfo::{
-    Cause, DecodeError, Family, InfoDataOf, InfoKind, InfoVethOf, InfoXfrm, LinkInfoOf,
+    Cause, DecodeError, ExactEq, Family, InfoDataOf, InfoKind, InfoVethOf, InfoXfrm, LinkInfoOf,
     VecLinkInfoOf, check, check_of, same_of,
 };
 use std::alloc::Global;
@@ -17,10 +17,39 @@ const PEERS: [&str; 2] = [
 ];
 
 /// Asserts that the bytes are accepted, and parse as the list.
-fn assert_accepted(rt: &impl Abort, alloc: Global, bytes: &[u8], list: &VecLinkInfoOf<AnyPeer>) {
-    let read = VecLinkInfoOf::<AnyPeer>::parse(alloc, bytes);
-    assert_parses(rt, &bytes, read, list);
-    assert_equal(rt, &bytes, &check_of::<AnyPeer>(bytes), &Ok(()));
+fn assert_accepted<P: DataLayer>(
+    rt: &impl Abort,
+    alloc: Global,
+    bytes: &[u8],
+    list: &VecLinkInfoOf<P>,
+)
+where
+    P::Data: PartialEq,
+    P::PortData: PartialEq,
+{
+    assert_parses(rt, &bytes, VecLinkInfoOf::<P>::parse(alloc, bytes), list);
+    assert_equal(rt, &bytes, &check_of::<P>(bytes), &Ok(()));
+}
+
+/// Asserts that both strings parse as the list, which is written as the first one.
+///
+/// The layer is a parameter, so that all of it is needed in one call of a test.
+fn assert_equivalent<P: DataLayer>(
+    rt: &impl Abort,
+    alloc: Global,
+    list: &VecLinkInfoOf<P>,
+    canonical: &[u8],
+    other: &[u8],
+)
+where
+    P::Data: ExactEq + Eq,
+    P::PortData: ExactEq + Eq,
+{
+    assert_accepted(rt, alloc, canonical, list);
+    assert_accepted(rt, alloc, other, list);
+    let same = same_of::<P>(canonical, other);
+    assert_equal(rt, &(canonical, other), &same, &Ok(true));
+    assert_emitted(rt, alloc, list.as_slice(), canonical);
 }
 
 #[test]
@@ -28,14 +57,11 @@ fn custom_peer(rt: HostRuntime) {
     let alloc = rt.alloc();
     let data = InfoDataOf::Veth(InfoVethOf::Peer(AnyPeer));
     let items = [LinkInfoOf::Kind(InfoKind::Veth), LinkInfoOf::Data(data)];
-    let list = VecLinkInfoOf(nlas(&rt, alloc, items));
+    let list: VecLinkInfoOf<AnyPeer> = VecLinkInfoOf(nlas(&rt, alloc, items));
     let [two, none] = PEERS;
     let two = bytes_of(&rt, alloc, two);
     let none = bytes_of(&rt, alloc, none);
-    assert_accepted(&rt, alloc, &two, &list);
-    assert_accepted(&rt, alloc, &none, &list);
-    assert_equal(&rt, &"both", &same_of::<AnyPeer>(&two, &none), &Ok(true));
-    assert_emitted(&rt, alloc, list.as_slice(), &none);
+    assert_equivalent(&rt, alloc, &list, &none, &two);
 }
 
 /// A vlan link whose data is an attribute of type 2 with four bytes, with flag bits too, and with
@@ -52,34 +78,23 @@ fn custom_layer(rt: HostRuntime) {
     let data = InfoDataOf::Vlan(nlas(&rt, alloc, [InfoXfrm::IfId(5)]));
     let items = [LinkInfoOf::Kind(InfoKind::Vlan), LinkInfoOf::Data(data)];
     let list: VecLinkInfoOf<Layered<AnyLayer>> = VecLinkInfoOf(nlas(&rt, alloc, items));
-    let [plain, flagged, short] = VLANS;
+    let [plain, flagged, _] = VLANS;
     let plain = bytes_of(&rt, alloc, plain);
     let flagged = bytes_of(&rt, alloc, flagged);
-    let short = bytes_of(&rt, alloc, short);
-    assert_parses(
-        &rt,
-        &"flagged",
-        VecLinkInfoOf::<Layered<AnyLayer>>::parse(alloc, &flagged),
-        &list,
-    );
-    assert_equal(
-        &rt,
-        &"both",
-        &same_of::<Layered<AnyLayer>>(&plain, &flagged),
-        &Ok(true),
-    );
-    assert_emitted(&rt, alloc, list.as_slice(), &plain);
-    // An error names the family that the layer supplies; opaque families accept every payload.
+    assert_equivalent(&rt, alloc, &list, &plain, &flagged);
+}
+
+/// An error names the family that the layer supplies; opaque families accept every payload.
+#[test]
+fn errors_of_a_custom_layer(rt: HostRuntime) {
+    let [_, _, short] = VLANS;
+    let short = bytes_of(&rt, rt.alloc(), short);
     let error = DecodeError {
         family: Family::Xfrm,
         kind: 2,
         cause: Cause::Length,
     };
-    assert_equal(
-        &rt,
-        &"short",
-        &check_of::<Layered<AnyLayer>>(&short),
-        &Err(error),
-    );
+    let checked = check_of::<Layered<AnyLayer>>(&short);
+    assert_equal(&rt, &"short", &checked, &Err(error));
     assert_equal(&rt, &"opaque", &check(&short), &Ok(()));
 }

@@ -4,11 +4,11 @@ use super::assertions::{
     assert_emitted, assert_equal, assert_holds, assert_parses, bytes_of, nlas, repeated,
 };
 use super::worked::VETH_TAIL;
-use linkinfo::families::BitPeer;
+use linkinfo::families::{BitPeer, DataLayer};
 use linkinfo::{
-    CanonError, CanonIntoError, Cause, DecodeError, Family, HeaderCount, InfoDataOf, InfoKind,
-    InfoNetkitOf, InfoVethOf, InfoVxcanOf, LinkInfoOf, VecLinkInfoOf, canon_into_of, canon_of,
-    check_counted_of, check_of, same, same_counted_of, same_of,
+    CanonError, CanonIntoError, Cause, DecodeError, ExactEq, Family, HeaderCount, InfoDataOf,
+    InfoKind, InfoNetkitOf, InfoVethOf, InfoVxcanOf, LinkInfoOf, VecLinkInfoOf, canon_into_of,
+    canon_of, check_counted_of, check_of, same, same_counted_of, same_of,
 };
 use std::alloc::Global;
 use std::process::Abort;
@@ -20,24 +20,37 @@ const PEER_OF_SEVEN: &str = "09000100 76657468 00000000 09000200 05000100 07";
 const PEER_OF_NINE: &str = "09000100 76657468 00000000 09000200 05000100 09";
 
 /// Asserts that the bytes parse as the list, and that this many headers are examined.
-fn assert_read(
+fn assert_read<P: DataLayer>(
     rt: &impl Abort,
     alloc: Global,
     bytes: &[u8],
-    wanted: &VecLinkInfoOf<BitPeer>,
+    wanted: &VecLinkInfoOf<P>,
     headers: usize,
-) {
-    let read = VecLinkInfoOf::<BitPeer>::parse(alloc, bytes);
+)
+where
+    P::Data: PartialEq,
+    P::PortData: PartialEq,
+{
+    let read = VecLinkInfoOf::<P>::parse(alloc, bytes);
     assert_parses(rt, &bytes, read, wanted);
     let mut count = HeaderCount::new();
-    let counted = VecLinkInfoOf::<BitPeer>::parse_counted(alloc, bytes, &mut count);
+    let counted = VecLinkInfoOf::<P>::parse_counted(alloc, bytes, &mut count);
     assert_parses(rt, &bytes, counted, wanted);
     assert_equal(rt, &bytes, &count.get(), &headers);
 }
 
 /// Asserts that the list is equal to its clone, and is written as the canonical encoding, into a
 /// buffer and by `to_vec`.
-fn assert_written(rt: &impl Abort, alloc: Global, list: &VecLinkInfoOf<BitPeer>, canonical: &[u8]) {
+fn assert_written<P: DataLayer + Clone>(
+    rt: &impl Abort,
+    alloc: Global,
+    list: &VecLinkInfoOf<P>,
+    canonical: &[u8],
+)
+where
+    P::Data: PartialEq + Clone,
+    P::PortData: PartialEq + Clone,
+{
     assert_holds(rt, &canonical, list.clone().expect(rt, "memory") == *list);
     assert_emitted(rt, alloc, list.as_slice(), canonical);
     let written = list.to_vec(alloc).expect(rt, "a string");
@@ -45,27 +58,31 @@ fn assert_written(rt: &impl Abort, alloc: Global, list: &VecLinkInfoOf<BitPeer>,
 }
 
 /// Asserts that `canon` returns the canonical encoding of the bytes.
-fn assert_canonical(rt: &impl Abort, alloc: Global, bytes: &[u8], canonical: &[u8]) {
-    let string = canon_of::<BitPeer>(alloc, bytes).expect(rt, "a canonical string");
+fn assert_canonical<P: DataLayer>(rt: &impl Abort, alloc: Global, bytes: &[u8], canonical: &[u8]) {
+    let string = canon_of::<P>(alloc, bytes).expect(rt, "a canonical string");
     assert_equal(rt, &bytes, &string.as_slice(), &canonical);
     let len = canonical.len();
     let mut buffer = repeated(rt, alloc, 255, len);
-    let written = canon_into_of::<BitPeer>(bytes, &mut buffer);
+    let written = canon_into_of::<P>(bytes, &mut buffer);
     assert_equal(rt, &bytes, &written, &Ok(len));
     assert_equal(rt, &bytes, &buffer.as_slice(), &canonical);
-    let written = canon_into_of::<BitPeer>(bytes, &mut []);
+    let written = canon_into_of::<P>(bytes, &mut []);
     assert_equal(rt, &bytes, &written, &Err(CanonIntoError::Short(len)));
 }
 
 /// Asserts that the bytes of the text, and the canonical encoding, parse as the list, with this
 /// many headers examined, and that the list is written as the canonical encoding.
-fn assert_list(
+fn assert_list<P: DataLayer + Clone>(
     rt: &impl Abort,
     alloc: Global,
-    list: VecLinkInfoOf<BitPeer>,
+    list: VecLinkInfoOf<P>,
     (bytes, canonical): (&[u8], &[u8]),
     headers: usize,
-) {
+)
+where
+    P::Data: PartialEq + Clone,
+    P::PortData: PartialEq + Clone,
+{
     assert_read(rt, alloc, bytes, &list, headers);
     assert_read(rt, alloc, canonical, &list, headers);
     assert_written(rt, alloc, &list, canonical);
@@ -74,23 +91,29 @@ fn assert_list(
 /// Asserts that the bytes of the text parse as a link of the kind with the data, with this many
 /// headers examined, and that the link is written as the canonical encoding. The other text has a
 /// peer that is equivalent as a bit, and not as bytes.
-fn assert_bits(
+///
+/// The layer is a parameter here and above, so that all of it is needed in one call of a test.
+fn assert_bits<P: DataLayer + Clone>(
     rt: &impl Abort,
     alloc: Global,
     (text, other, canonical): (&str, &str, &str),
-    items: [LinkInfoOf<BitPeer>; 2],
+    items: [LinkInfoOf<P>; 2],
     headers: usize,
-) {
+)
+where
+    P::Data: ExactEq + Eq + Clone,
+    P::PortData: ExactEq + Eq + Clone,
+{
     let list = VecLinkInfoOf(nlas(rt, alloc, items));
     let canonical = bytes_of(rt, alloc, canonical);
     let bytes = bytes_of(rt, alloc, text);
     assert_list(rt, alloc, list, (&bytes, &canonical), headers);
-    assert_equal(rt, &text, &check_of::<BitPeer>(&bytes), &Ok(()));
+    assert_equal(rt, &text, &check_of::<P>(&bytes), &Ok(()));
     let other = bytes_of(rt, alloc, other);
-    assert_equal(rt, &text, &same_of::<BitPeer>(&bytes, &other), &Ok(true));
+    assert_equal(rt, &text, &same_of::<P>(&bytes, &other), &Ok(true));
     assert_equal(rt, &text, &same(&bytes, &other), &Ok(false));
-    assert_canonical(rt, alloc, &bytes, &canonical);
-    assert_canonical(rt, alloc, &other, &canonical);
+    assert_canonical::<P>(rt, alloc, &bytes, &canonical);
+    assert_canonical::<P>(rt, alloc, &other, &canonical);
 }
 
 /// A link with data whose peer is a bit.
@@ -148,21 +171,27 @@ fn counts_of_bits(rt: HostRuntime) {
     assert_equal(&rt, &case, &comparing.get(), &12);
 }
 
-/// The error of a byte string, with bits as peers.
-fn error_of(alloc: Global, bytes: &[u8]) -> Option<DecodeError> {
-    VecLinkInfoOf::<BitPeer>::parse(alloc, bytes).err()
-}
-
-/// Asserts that each call whose peers are bits rejects the bytes of the text with this error.
-fn assert_rejected(rt: &impl Abort, alloc: Global, text: &str, bytes: &[u8], error: DecodeError) {
-    let rewritten = canon_of::<BitPeer>(alloc, bytes).err();
-    let written = canon_into_of::<BitPeer>(bytes, &mut []);
-    assert_equal(rt, &text, &check_of::<BitPeer>(bytes), &Err(error));
-    assert_equal(rt, &text, &error_of(alloc, bytes), &Some(error));
+/// Asserts that each call over the layer rejects the bytes of the text with this error.
+fn assert_rejected<P: DataLayer>(
+    rt: &impl Abort,
+    alloc: Global,
+    text: &str,
+    bytes: &[u8],
+    error: DecodeError,
+)
+where
+    P::Data: ExactEq + Eq,
+    P::PortData: ExactEq + Eq,
+{
+    let read = VecLinkInfoOf::<P>::parse(alloc, bytes).err();
+    let rewritten = canon_of::<P>(alloc, bytes).err();
+    let written = canon_into_of::<P>(bytes, &mut []);
+    assert_equal(rt, &text, &check_of::<P>(bytes), &Err(error));
+    assert_equal(rt, &text, &read, &Some(error));
     assert_equal(rt, &text, &rewritten, &Some(CanonError::Refused(error)));
     assert_equal(rt, &text, &written, &Err(CanonIntoError::Refused(error)));
-    assert_equal(rt, &text, &same_of::<BitPeer>(bytes, &[]), &Err(error));
-    assert_equal(rt, &text, &same_of::<BitPeer>(&[], bytes), &Err(error));
+    assert_equal(rt, &text, &same_of::<P>(bytes, &[]), &Err(error));
+    assert_equal(rt, &text, &same_of::<P>(&[], bytes), &Err(error));
 }
 
 /// Links with a peer of two bytes, and the families that their errors name.
@@ -192,7 +221,7 @@ fn peers_that_are_no_bits(rt: HostRuntime) {
             kind: 1,
             cause: Cause::Peer,
         };
-        assert_rejected(&rt, alloc, text, &bytes, error);
+        assert_rejected::<BitPeer>(&rt, alloc, text, &bytes, error);
         assert_equal(&rt, text, &same(&bytes, &bytes), &Ok(true));
     }
 }

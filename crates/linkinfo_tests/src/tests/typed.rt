@@ -1,61 +1,71 @@
-//! Lists over the typed layer: worked strings of vlan links, and a link that is built.
+//! Lists over the typed layer: worked strings of links with types, and links that are built.
 
-use super::assertions::{assert_emitted, assert_equal, assert_holds, bytes_of, default_nla, nlas};
+use super::assertions::{
+    HEADER_ERROR, assert_emitted, assert_equal, assert_holds, bytes_of, default_nla, nlas,
+};
 use super::dumps::dumps;
 use linkinfo::typed::{
-    self, InfoData, InfoPortData, InfoVlan, LinkInfo, Typed, VecLinkInfo, VlanQosMapping,
+    self, InfoData, InfoDsa, InfoHsr, InfoPortData, InfoTun, InfoVlan, LinkInfo, Typed,
+    VecLinkInfo, VlanQosMapping,
 };
 use linkinfo::{
-    Bytes, Cause, DecodeError, Difference, Family, Flags, HeaderCount, InfoBondPort, InfoKind,
-    InfoPortKind, VlanFlags, VlanProtocol, check, check_counted_of, first_difference, first_unmet,
-    layer_laws, same as same_at_root,
+    Bytes, CanonError, CanonIntoError, Cause, DecodeError, Difference, Family, Flags, HeaderCount,
+    HsrProtocol, InfoBondPort, InfoKind, InfoPortKind, TunType, VlanFlags, VlanProtocol, check,
+    check_counted_of, first_difference, first_unmet, laws, layer_laws, same as same_at_root,
 };
 use std::alloc::Global;
 use std::process::Abort;
 
-/// Strings that are rejected, and their errors: an ID of one byte; a mapping of four bytes, also
-/// before a byte that is no header; a payload that is no list; and both errors, in either order.
-const REJECTED: &[(&str, Family, u16, Cause)] = &[
+/// Strings that are rejected, the errors as they are displayed, and the headers examined: an ID of
+/// one byte; a mapping of four bytes, also before a byte that is no header; a payload that is no
+/// list; both errors, in either order; an address of five bytes of an `hsr` link; and an index of
+/// three of a `dsa` link.
+const REJECTED: &[(&str, &str, usize)] = &[
     (
         "09000100 766c616e 00000000 09000200 05000100 07",
-        Family::Vlan,
-        1,
-        Cause::Length,
+        "vlan 1 length",
+        3,
     ),
     (
         "09000100 766c616e 00000000 10000200 0c000300 08000100 00000000",
-        Family::VlanQosMapping,
-        1,
-        Cause::Length,
+        "vlanqosmapping 1 length",
+        4,
     ),
     (
         "09000100 766c616e 00000000 11000200 0d000300 08000100 00000000 01",
-        Family::VlanQosMapping,
-        1,
-        Cause::Length,
+        "vlanqosmapping 1 length",
+        4,
     ),
     (
         "09000100 766c616e 00000000 09000200 05000300 01",
-        Family::Frame,
-        0,
-        Cause::Header,
+        "frame 0 header",
+        3,
     ),
     (
         "09000100 766c616e 00000000 18000200 05000100 07000000 0c000300 08000100 00000000",
-        Family::Vlan,
-        1,
-        Cause::Length,
+        "vlan 1 length",
+        3,
     ),
     (
         "09000100 766c616e 00000000 15000200 0c000300 08000100 00000000 05000100 07",
-        Family::VlanQosMapping,
-        1,
-        Cause::Length,
+        "vlanqosmapping 1 length",
+        4,
+    ),
+    (
+        "08000100 68737200 0d000200 09000400 01020304 05",
+        "hsr 4 length",
+        3,
+    ),
+    (
+        "08000100 64736100 0b000200 07000100 010203",
+        "dsa 1 length",
+        3,
     ),
 ];
 
 /// Strings, their canonical encodings, and the headers examined: flag bits of an ID; those of a
-/// list and of a mapping; those of an attribute of a list without a row; and an empty list.
+/// list and of a mapping; those of an attribute of a list without a row; an empty list; and a
+/// boolean and an unknown attribute of a `tun` link.
 const CANONICAL: &[(&str, &str, usize)] = &[
     (
         "09000100 766c616e 00000000 0a000200 060001c0 0700",
@@ -75,6 +85,16 @@ const CANONICAL: &[(&str, &str, usize)] = &[
     (
         "09000100 766c616e 00000000 08000200 04000300",
         "09000100 766c616e 00000000 08000200 04000300",
+        3,
+    ),
+    (
+        "08000100 74756e00 09000200 05000400 ff",
+        "08000100 74756e00 0c000200 05000400 01000000",
+        3,
+    ),
+    (
+        "08000100 74756e00 09000200 05000a80 ff",
+        "08000100 74756e00 0c000200 05000a80 ff000000",
         3,
     ),
 ];
@@ -117,27 +137,103 @@ const STORED: &[&str] = &[
      ffffffff 10000400 0c000100 02000000 07000000 10000300 0c000100 03000000 05000000",
 ];
 
-/// Asserts that the string is rejected with this error by each call, and accepted by the calls that
-/// keep the attributes of vlan links verbatim.
-fn assert_rejected(rt: &impl Abort, alloc: Global, text: &str, error: DecodeError) {
+/// Asserts that each call over the typed layer rejects the bytes with this error.
+fn assert_refused(rt: &impl Abort, alloc: Global, bytes: &[u8], error: DecodeError) {
+    let read = VecLinkInfo::parse(alloc, bytes).err();
+    let at = typed::check_at(bytes).err().map(|at| at.error);
+    let rewritten = typed::canon(alloc, bytes).err();
+    let written = typed::canon_into(bytes, &mut []);
+    assert_equal(rt, &bytes, &typed::check(bytes), &Err(error));
+    assert_equal(rt, &bytes, &read, &Some(error));
+    assert_equal(rt, &bytes, &at, &Some(error));
+    assert_equal(rt, &bytes, &rewritten, &Some(CanonError::Refused(error)));
+    assert_equal(rt, &bytes, &written, &Err(CanonIntoError::Refused(error)));
+    assert_equal(rt, &bytes, &typed::same(bytes, &[]), &Err(error));
+    assert_equal(rt, &bytes, &typed::same(&[], bytes), &Err(error));
+    assert_holds(rt, &bytes, typed::first_unmet(bytes, &[]).is_err());
+    assert_holds(rt, &bytes, typed::first_difference(&[], bytes).is_err());
+}
+
+/// Asserts that the string is rejected with the error that is displayed so, by each call, and
+/// accepted by the calls that keep these attributes verbatim.
+fn assert_rejected(rt: &impl Abort, alloc: Global, text: &str, said: &str, headers: usize) {
     let bytes = bytes_of(rt, alloc, text);
-    assert_equal(rt, &text, &typed::check(&bytes), &Err(error));
-    let read = VecLinkInfo::parse(alloc, &bytes).err();
-    assert_equal(rt, &text, &read, &Some(error));
-    let at = typed::check_at(&bytes).err().map(|at| at.error);
-    assert_equal(rt, &text, &at, &Some(error));
+    let mut count = HeaderCount::new();
+    let checked = check_counted_of::<Typed<Bytes>>(&bytes, &mut count);
+    let error = checked.err().expect(rt, "an error");
+    let displayed = format!(in alloc; "{error}").expect(rt, "memory");
+    assert_equal(rt, &text, &displayed.as_str(), &said);
+    assert_equal(rt, &text, &count.get(), &headers);
+    assert_refused(rt, alloc, &bytes, error);
     assert_equal(rt, &text, &check(&bytes), &Ok(()));
 }
 
 #[test]
-fn rejected_vlan_links(rt: HostRuntime) {
-    for (text, family, kind, cause) in REJECTED {
+fn rejected_links(rt: HostRuntime) {
+    for (text, said, headers) in REJECTED {
+        assert_rejected(&rt, rt.alloc(), text, said, *headers);
+    }
+}
+
+/// A vlan link whose data is one attribute of a type, of this many zeros.
+fn vlan_of_zeros(rt: &impl Abort, alloc: Global, kind: u8, len: u8) -> Vec<u8> {
+    assert!(rt; len <= 70);
+    let front = [
+        9,
+        0,
+        1,
+        0,
+        b'v',
+        b'l',
+        b'a',
+        b'n',
+        0,
+        0,
+        0,
+        0,
+        len + 8,
+        0,
+        2,
+        0,
+        len + 4,
+        0,
+        kind,
+        0,
+    ];
+    let mut bytes = Vec::from_array(alloc, front).expect(rt, "memory");
+    for _ in 0..len {
+        bytes.push(0).expect(rt, "memory");
+    }
+    bytes
+}
+
+/// Asserts that zeros of each length up to 70 are the payload of an attribute of vlan links only if
+/// they have this length: any other has the error.
+fn assert_only_length(rt: &impl Abort, alloc: Global, kind: u8, length: u8, error: DecodeError) {
+    for len in 0..=70 {
+        let bytes = vlan_of_zeros(rt, alloc, kind, len);
+        if len == length {
+            assert_equal(rt, &(kind, len), &typed::check(&bytes), &Ok(()));
+            assert_holds(rt, &(kind, len), VecLinkInfo::parse(alloc, &bytes).is_ok());
+        } else {
+            assert_refused(rt, alloc, &bytes, error);
+        }
+    }
+}
+
+#[test]
+fn every_length_in_vlan_links(rt: HostRuntime) {
+    for (kind, length) in [(1, 2), (2, 8), (5, 2)] {
         let error = DecodeError {
-            family: *family,
-            kind: *kind,
-            cause: *cause,
+            family: Family::Vlan,
+            kind: u16::from(kind),
+            cause: Cause::Length,
         };
-        assert_rejected(&rt, rt.alloc(), text, error);
+        assert_only_length(&rt, rt.alloc(), kind, length, error);
+    }
+    // Zeros are no header.
+    for kind in [3, 4] {
+        assert_only_length(&rt, rt.alloc(), kind, 0, HEADER_ERROR);
     }
 }
 
@@ -155,6 +251,7 @@ fn assert_canonical(rt: &impl Abort, alloc: Global, text: &str, canonical: &str,
     let mut count = HeaderCount::new();
     let checked = check_counted_of::<Typed<Bytes>>(&bytes, &mut count);
     assert_equal(rt, &text, &(checked, count.get()), &(Ok(()), headers));
+    laws::typed_refined(&bytes);
     assert_equal(rt, &text, &check(&bytes), &Ok(()));
     assert_equal(rt, &text, &typed::same(&bytes, &wanted), &Ok(true));
     assert_equal(rt, &text, &typed::first_unmet(&bytes, &wanted), &Ok(None));
@@ -167,12 +264,63 @@ fn assert_canonical(rt: &impl Abort, alloc: Global, text: &str, canonical: &str,
 }
 
 #[test]
-fn canonical_vlan_links(rt: HostRuntime) {
+fn canonical_links(rt: HostRuntime) {
+    layer_laws::lawful::<Bytes>();
     layer_laws::lawful::<Typed<Bytes>>();
     for (text, canonical, headers) in CANONICAL {
         assert_canonical(&rt, rt.alloc(), text, canonical, *headers);
     }
     assert_canonical(&rt, rt.alloc(), REPLY, REPLY, 11);
+}
+
+/// The replies of Linux 6.12 and 7.2 for hsr links as they are made, by their version, and after a
+/// change of the supervision address, with the headers examined.
+const STORED_HSR: &[(&str, usize)] = &[
+    (
+        "08000100 68737200 30000200 08000100 66000000 08000200 67000000 0a000400 01154e00 012d0000 \
+         06000500 03fc0000 05000700 00000000",
+        7,
+    ),
+    (
+        "08000100 68737200 30000200 08000100 66000000 08000200 67000000 0a000400 01154e00 012d0000 \
+         06000500 fffb0000 05000700 00000000",
+        7,
+    ),
+    (
+        "08000100 68737200 30000200 08000100 66000000 08000200 67000000 0a000400 01154e00 01000000 \
+         06000500 fffb0000 05000700 00000000",
+        7,
+    ),
+    (
+        "08000100 68737200 38000200 08000100 66000000 08000200 67000000 0a000400 01154e00 012d0000 \
+         06000500 05fc0000 05000600 01000000 05000700 00000000",
+        8,
+    ),
+    (
+        "08000100 68737200 38000200 08000100 66000000 08000200 67000000 0a000400 01154e00 012d0000 \
+         06000500 fffb0000 05000600 01000000 05000700 00000000",
+        8,
+    ),
+    (
+        "08000100 68737200 38000200 08000100 66000000 08000200 67000000 0a000400 01154e00 01000000 \
+         06000500 fffb0000 05000600 01000000 05000700 00000000",
+        8,
+    ),
+];
+
+#[test]
+fn stored_replies_for_hsr_links(rt: HostRuntime) {
+    for (text, headers) in STORED_HSR {
+        assert_canonical(&rt, rt.alloc(), text, text, *headers);
+    }
+}
+
+/// Asserts that what meets a request by the calls of the root meets it over the typed layer.
+fn assert_met_as_at_root(rt: &impl Abort, have: &[u8], want: &[u8]) {
+    if first_unmet(have, want) == Ok(None) {
+        let unmet = typed::first_unmet(have, want);
+        assert_equal(rt, &(have, want), &unmet, &Ok(None));
+    }
 }
 
 #[test]
@@ -185,6 +333,7 @@ fn stored_replies(rt: HostRuntime) {
             let same = at == other_at;
             assert_equal(&rt, &(text, other), &typed::same(&a, &b), &Ok(same));
             assert_equal(&rt, &(text, other), &same_at_root(&a, &b), &Ok(same));
+            assert_met_as_at_root(&rt, &a, &b);
         }
     }
 }
@@ -205,7 +354,8 @@ fn assert_as_at_root(rt: &impl Abort, alloc: Global, name: &str, have: &[u8], wa
     assert_equal(rt, &name, &written.as_slice(), &want);
 }
 
-/// Lists without attributes of vlan links have the answers of the calls that keep these verbatim.
+/// Replies for other links than vlan links have the answers of the calls that keep all attributes
+/// of these families verbatim.
 #[test]
 fn replies_for_other_links(rt: HostRuntime) {
     let alloc = rt.alloc();
@@ -338,11 +488,22 @@ fn mappings_of_vlan_links_are_met(rt: HostRuntime) {
         let told = unmet.map(|it| (it.family, it.kind, it.want, it.have));
         let wanted = expected.map(|(family, kind, want)| (family, kind, want, None));
         assert_equal(&rt, text, &told, &wanted);
+        assert_met_as_at_root(&rt, &have, &want);
     }
     let want = bytes_of(&rt, rt.alloc(), ONE);
     let opaque = first_unmet(&have, &want).expect(&rt, "accepted lists");
     let told = opaque.map(|it| (it.family, it.kind, it.want, it.have));
     assert_equal(&rt, &ONE, &told, &Some((Family::Vlan, 3, 16, Some(16))));
+}
+
+/// Asserts that a link of the kind with the data is written as the string, and read back.
+fn assert_link(rt: &impl Abort, alloc: Global, kind: InfoKind, data: InfoData, text: &str) {
+    let items = [LinkInfo::Kind(kind), LinkInfo::Data(data)];
+    let list = VecLinkInfo::from(nlas(rt, alloc, items).into_vec());
+    let bytes = bytes_of(rt, alloc, text);
+    assert_emitted(rt, alloc, list.as_slice(), &bytes);
+    let read = VecLinkInfo::parse(alloc, &bytes).expect(rt, "a list");
+    assert_holds(rt, &text, read == list);
 }
 
 #[test]
@@ -378,15 +539,49 @@ fn built_vlan_link(rt: HostRuntime) {
             InfoVlan::EgressQos(sent),
         ],
     );
-    let items = [
-        LinkInfo::Kind(InfoKind::Vlan),
-        LinkInfo::Data(InfoData::Vlan(data)),
+    assert_link(&rt, alloc, InfoKind::Vlan, InfoData::Vlan(data), REPLY);
+}
+
+/// The reply of a kernel for a tap device of a user and a group.
+const TAP: &str = "08000100 74756e00 3c000200 05000300 02000000 08000100 e8030000 08000200 \
+                   64000000 05000400 00000000 05000500 00000000 05000600 01000000 05000700 \
+                   00000000";
+
+#[test]
+fn built_tap_device(rt: HostRuntime) {
+    let alloc = rt.alloc();
+    let data = [
+        InfoTun::Type(TunType::Tap),
+        InfoTun::Owner(1000),
+        InfoTun::Group(100),
+        InfoTun::Pi(false),
+        InfoTun::VnetHdr(false),
+        InfoTun::Persist(true),
+        InfoTun::MultiQueue(false),
     ];
-    let list = VecLinkInfo::from(nlas(&rt, alloc, items).into_vec());
-    let bytes = bytes_of(&rt, alloc, REPLY);
-    assert_emitted(&rt, alloc, list.as_slice(), &bytes);
-    let read = VecLinkInfo::parse(alloc, &bytes).expect(&rt, "a list");
-    assert_holds(&rt, &REPLY, read == list);
+    let data = InfoData::Tun(nlas(&rt, alloc, data));
+    assert_link(&rt, alloc, InfoKind::Tun, data, TAP);
+}
+
+/// A request for a link of PRP over the links 2 and 3.
+const PRP: &str = "08000100 68737200 1c000200 08000100 02000000 08000200 03000000 05000700 \
+                   01000000";
+
+/// A request for a port of a DSA switch, by the conduit 2.
+const DSA: &str = "08000100 64736100 0c000200 08000100 02000000";
+
+#[test]
+fn built_hsr_and_dsa_links(rt: HostRuntime) {
+    let alloc = rt.alloc();
+    let data = [
+        InfoHsr::Port1(2),
+        InfoHsr::Port2(3),
+        InfoHsr::Protocol(HsrProtocol::Prp),
+    ];
+    let data = InfoData::Hsr(nlas(&rt, alloc, data));
+    assert_link(&rt, alloc, InfoKind::Hsr, data, PRP);
+    let data = InfoData::Dsa(nlas(&rt, alloc, [InfoDsa::Conduit(2)]));
+    assert_link(&rt, alloc, InfoKind::Dsa, data, DSA);
 }
 
 /// A port of a bond whose state (`IFLA_BOND_SLAVE_STATE`) is 0, active.

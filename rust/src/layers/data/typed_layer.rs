@@ -16,16 +16,13 @@ use crate::layers::data::tunnels::{TunnelFamily, of_tunnel};
 use crate::layers::devices::InfoVrfPort;
 use crate::layers::nla_frame::{Bytes, DecodeError, HeaderCount};
 use crate::layers::peers::InfoTeamPort;
-use crate::layers::table::lower::{
-    InfoBond, InfoBondPort, InfoBridge, InfoBridgePort, InfoCan, InfoDsa, InfoHsr,
-};
-use crate::layers::table::opaque::TUN;
-use crate::layers::table::{LinkLayer, LinkPeer, Opaque};
-use crate::layers::typed::InfoVlan;
+use crate::layers::table::lower::{InfoBond, InfoBondPort, InfoBridge, InfoBridgePort, InfoCan};
+use crate::layers::table::{LinkLayer, LinkPeer};
+use crate::layers::typed::{InfoDsa, InfoHsr, InfoTun, InfoVlan};
 use core::marker::PhantomData;
 
-/// The layer whose peers are `P`, and whose attributes of `vlan` links have types. Those of `bond`,
-/// `bridge`, `can`, `hsr`, `dsa` and `tun` links, and of ports of bonds and bridges, are opaque.
+/// The layer whose peers are `P`, and whose attributes of `dsa`, `hsr`, `tun` and `vlan` links have
+/// types. Those of `bond`, `bridge` and `can` links, and of ports of bonds and bridges, are opaque.
 ///
 /// A list of links with such attributes is `VecLinkInfoOf<Typed<Bytes>>`.
 #[derive(Clone, Debug, PartialEq, Eq, Hash, PartialOrd, Ord)]
@@ -48,7 +45,7 @@ impl<P: LinkPeer> LinkLayer for Typed<P> {
 
     type Dsa = InfoDsa;
 
-    type Tun = Opaque<TUN>;
+    type Tun = InfoTun;
 
     type BondPort = InfoBondPort;
 

@@ -1,7 +1,7 @@
 // @generated from crates/linkinfo/src/typed.rt by rust/translate/run.
 
-//! Lists over the typed layer, by the names of the crate's root: the attributes of `vlan` links
-//! have types here, and so have the priority maps in them.
+//! Lists over the typed layer, by the names of the crate's root: the attributes of `dsa`, `hsr`,
+//! `tun` and `vlan` links have types here, and so have the priority maps in those of `vlan` links.
 //!
 //! ```
 //! use linkinfo::typed::{self, InfoData, InfoVlan, LinkInfo, VecLinkInfo};
@@ -20,7 +20,7 @@
 //! ```
 //!
 //! These calls are those of the root over another layer. What they reject, and how they compare and
-//! write vlan attributes, is said there of the calls that end in `_of`.
+//! write typed attributes, is said there of the calls that end in `_of`.
 
 pub use crate::layers::data::Typed;
 use crate::layers::data::{Difference, InfoDataOf, InfoPortDataOf, Unmet};
@@ -32,7 +32,7 @@ use crate::layers::link::list::{VecLinkInfoOf, check_of, same_of};
 use crate::layers::link::placed::{ErrorAt, ErrorIn, check_at_of};
 use crate::layers::link::unmet::first_unmet_of;
 use crate::layers::nla_frame::{Bytes, DecodeError};
-pub use crate::layers::typed::{InfoVlan, VlanQosMapping};
+pub use crate::layers::typed::{InfoDsa, InfoHsr, InfoTun, InfoVlan, VlanQosMapping};
 use alloc::vec::Vec;
 
 /// The contents of `IFLA_LINKINFO`, over the typed layer, with peers kept as bytes.

@@ -10,7 +10,7 @@ use crate::layers::nla_frame::{
 use crate::layers::payloads::exact::refused;
 use crate::layers::payloads::fixed::Fixed;
 use crate::layers::table::{
-    Difference, LinkPayload, PlacedNla, Unmet, unmet_as_whole, whole_difference, whole_error,
+    Difference, LinkPayload, PlacedNla, Unmet, unmet_as_whole, whole_difference,
 };
 use alloc::vec::Vec;
 use core::net::{Ipv4Addr, Ipv6Addr};
@@ -106,12 +106,7 @@ impl<A: Address> LinkPayload for Addresses<A> {
     }
 
     fn error_offset(payload: &[u8]) -> Option<usize> {
-        whole_error(address_check::<A>(
-            payload,
-            Family::Frame,
-            0,
-            &mut HeaderCount::new(),
-        ))
+        address_error::<A>(payload)
     }
 
     fn difference(family: Family, a: &PlacedNla<'_>, b: &PlacedNla<'_>) -> Option<Difference> {
@@ -164,6 +159,24 @@ fn address_check<A: Address>(
         rest = after;
     }
     Ok(())
+}
+
+/// The offset of the error of an attribute with this list, in bytes from the attribute's header, or
+/// `None` if the list is accepted: 0 if an attribute has another length than an address, otherwise
+/// that of the bytes where no header is accepted.
+fn address_error<A: Address>(payload: &[u8]) -> Option<usize> {
+    let mut count = HeaderCount::new();
+    let mut rest = payload;
+    while let Some(next) = next_attribute(rest, &mut count) {
+        let Ok((nla, after)) = next else {
+            return Some(4 + (payload.len() - rest.len()));
+        };
+        if nla.value().len() != A::WIDTH {
+            return Some(0);
+        }
+        rest = after;
+    }
+    None
 }
 
 /// Whether two lists are equivalent: they have as many attributes, and equal payloads in pairs.

@@ -2,6 +2,7 @@
 
 //! Typed attributes of `tun`, `hsr` and `dsa` links.
 
+use super::lengths::has_only_length;
 use super::rows::{
     HasExample, HoldsOthers, UNLISTED, has_one_length, has_rows, has_rows_and_others, has_shapes,
     is_list, list_is_written_as,
@@ -134,4 +135,34 @@ fn rows_of_dsa() {
     let rows: &[(&[u8], &str)] = &[(&[8, 0, 1, 0, 4, 3, 2, 1], "Conduit(16909060)")];
     has_rows_and_others::<InfoDsa>(rows, UNLISTED, &[8, 0, 1, 0, 7, 0, 0, 0]);
     has_one_length::<InfoDsa>((), &[8, 0, 1, 0, 7, 0, 0, 0]);
+}
+
+#[test]
+fn every_length() {
+    for (kind, length) in [
+        (1, 4),
+        (2, 4),
+        (3, 1),
+        (4, 1),
+        (5, 1),
+        (6, 1),
+        (7, 1),
+        (8, 4),
+        (9, 4),
+    ] {
+        has_only_length::<InfoTun>(kind, length);
+    }
+    for (kind, length) in [
+        (1, 4),
+        (2, 4),
+        (3, 1),
+        (4, 6),
+        (5, 2),
+        (6, 1),
+        (7, 1),
+        (8, 4),
+    ] {
+        has_only_length::<InfoHsr>(kind, length);
+    }
+    has_only_length::<InfoDsa>(1, 4);
 }

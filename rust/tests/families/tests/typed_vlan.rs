@@ -2,7 +2,7 @@
 
 //! Typed attributes of `vlan` links, and the mappings of priorities in two of them.
 
-use super::lengths::{has_lists, has_only_length, with_zeros};
+use super::lengths::{has_lists, has_only_length};
 use super::rows::{
     Checked, HEADER, HasExample, HoldsOthers, UNLISTED, assert_is, checks_list, compare_lists,
     has_rows_and_others, has_shapes, is_list_read, is_parsed, is_text, list_is_emitted,
@@ -203,15 +203,17 @@ fn rejected_lists() {
     }
 }
 
-/// Asserts that of one attribute in a list of mappings, with zeros of each length up to 66, a
+/// Asserts that of one attribute in a list of mappings, with zeros of each length up to 70, a
 /// mapping has eight bytes, and an attribute of a type without a row any number of them.
 fn has_mappings(kind: u8) {
-    let mut buffer = [0; 78];
-    for len in 4..=70 {
-        let end = with_zeros(kind, len, &mut buffer);
-        buffer[4] = len;
+    for len in 0..=70u8 {
+        let mut buffer = [0; 78];
+        buffer[0] = len + 8;
+        buffer[2] = kind;
+        buffer[4] = len + 4;
         buffer[6] = 1;
-        let mapping = if len == 12 { Ok(()) } else { Err(OF_MAPPING) };
+        let end = usize::from(len) + 8;
+        let mapping = if len == 8 { Ok(()) } else { Err(OF_MAPPING) };
         let bytes = buffer.get(..end).expect("an attribute");
         checks_list::<InfoVlan>((), bytes, (mapping, 2));
         buffer[6] = 2;

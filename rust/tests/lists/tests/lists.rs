@@ -7,8 +7,9 @@ use super::assertions::{
 };
 use super::worked::{EMPTY_NAME, LATER_KIND, OTHER_PORT, PORT_DATA, VETH, XFRM, XSTATS};
 use crate::support::*;
+use linkinfo::layers::link::families::DataLayer;
 use linkinfo::layers::link::{
-    InfoData, InfoKind, InfoXfrm, LinkInfo, Nla, Nlas, VecLinkInfo, nlas_fit_len,
+    InfoData, InfoKind, InfoXfrm, LinkInfo, Nla, Nlas, VecLinkInfo, VecLinkInfoOf, nlas_fit_len,
 };
 use std::fmt::Debug;
 use std::vec;
@@ -83,7 +84,11 @@ fn writes_a_list_in_one_call() {
 }
 
 /// Asserts the types of the attributes of the list, in order.
-fn assert_types(list: &VecLinkInfo, wanted: &[u16]) {
+fn assert_types<P: DataLayer>(list: &VecLinkInfoOf<P>, wanted: &[u16])
+where
+    P::Data: PartialEq,
+    P::PortData: PartialEq,
+{
     let mut types = Vec::new();
     for item in list {
         types.try_push(item.kind()).expect("memory");
@@ -107,17 +112,27 @@ fn collected<T>(items: vec::IntoIter<T>) -> Vec<T> {
 }
 
 /// Asserts the attributes of the list by reference and by value, and their number.
-fn assert_iterated(text: &str, types: &[u16]) {
-    let list = parsed(&bytes_of(text));
+///
+/// The layer is a parameter, so that all of it is needed in one call of a test.
+fn assert_iterated<P: DataLayer + Clone>(list: VecLinkInfoOf<P>, types: &[u16])
+where
+    P::Data: PartialEq + Clone,
+    P::PortData: PartialEq + Clone,
+{
     assert_types(&list, types);
     let copy = list.try_clone().expect("memory");
-    let items = VecLinkInfo::from(collected(copy.into_iter()));
-    assert_holds(&text, items == list);
-    assert_equal(&text, &list.into_vec().len(), &types.len());
+    let items = VecLinkInfoOf::from(collected(copy.into_iter()));
+    assert_holds(&types, items == list);
+    assert_equal(&types, &list.into_vec().len(), &types.len());
 }
+
+/// Lists, and the types of their attributes.
+const ITERATED: &[(&str, &[u16])] = &[(LATER_KIND, &[1, 1, 2]), ("", &[])];
 
 #[test]
 fn iterates_over_a_list() {
-    assert_iterated(LATER_KIND, &[1, 1, 2]);
-    assert_iterated("", &[]);
+    for (text, types) in ITERATED {
+        let list = parsed(&bytes_of(text));
+        assert_iterated(list, types);
+    }
 }

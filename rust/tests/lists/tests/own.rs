@@ -4,9 +4,9 @@
 
 use super::assertions::{assert_emitted, assert_equal, assert_parses, bytes_of, nlas};
 use crate::{AnyLayer, AnyPeer};
-use linkinfo::layers::link::families::Layered;
+use linkinfo::layers::link::families::{DataLayer, Layered};
 use linkinfo::layers::link::{
-    Cause, DecodeError, Family, InfoDataOf, InfoKind, InfoVethOf, InfoXfrm, LinkInfoOf,
+    Cause, DecodeError, ExactEq, Family, InfoDataOf, InfoKind, InfoVethOf, InfoXfrm, LinkInfoOf,
     VecLinkInfoOf, check, check_of, same_of,
 };
 
@@ -17,24 +17,39 @@ const PEERS: [&str; 2] = [
 ];
 
 /// Asserts that the bytes are accepted, and parse as the list.
-fn assert_accepted(bytes: &[u8], list: &VecLinkInfoOf<AnyPeer>) {
-    let read = VecLinkInfoOf::<AnyPeer>::parse(bytes);
-    assert_parses(&bytes, read, list);
-    assert_equal(&bytes, &check_of::<AnyPeer>(bytes), &Ok(()));
+fn assert_accepted<P: DataLayer>(bytes: &[u8], list: &VecLinkInfoOf<P>)
+where
+    P::Data: PartialEq,
+    P::PortData: PartialEq,
+{
+    assert_parses(&bytes, VecLinkInfoOf::<P>::parse(bytes), list);
+    assert_equal(&bytes, &check_of::<P>(bytes), &Ok(()));
+}
+
+/// Asserts that both strings parse as the list, which is written as the first one.
+///
+/// The layer is a parameter, so that all of it is needed in one call of a test.
+fn assert_equivalent<P: DataLayer>(list: &VecLinkInfoOf<P>, canonical: &[u8], other: &[u8])
+where
+    P::Data: ExactEq + Eq,
+    P::PortData: ExactEq + Eq,
+{
+    assert_accepted(canonical, list);
+    assert_accepted(other, list);
+    let same = same_of::<P>(canonical, other);
+    assert_equal(&(canonical, other), &same, &Ok(true));
+    assert_emitted(list.as_slice(), canonical);
 }
 
 #[test]
 fn custom_peer() {
     let data = InfoDataOf::Veth(InfoVethOf::Peer(AnyPeer));
     let items = [LinkInfoOf::Kind(InfoKind::Veth), LinkInfoOf::Data(data)];
-    let list = VecLinkInfoOf(nlas(items));
+    let list: VecLinkInfoOf<AnyPeer> = VecLinkInfoOf(nlas(items));
     let [two, none] = PEERS;
     let two = bytes_of(two);
     let none = bytes_of(none);
-    assert_accepted(&two, &list);
-    assert_accepted(&none, &list);
-    assert_equal(&"both", &same_of::<AnyPeer>(&two, &none), &Ok(true));
-    assert_emitted(list.as_slice(), &none);
+    assert_equivalent(&list, &none, &two);
 }
 
 /// A vlan link whose data is an attribute of type 2 with four bytes, with flag bits too, and with
@@ -50,31 +65,23 @@ fn custom_layer() {
     let data = InfoDataOf::Vlan(nlas([InfoXfrm::IfId(5)]));
     let items = [LinkInfoOf::Kind(InfoKind::Vlan), LinkInfoOf::Data(data)];
     let list: VecLinkInfoOf<Layered<AnyLayer>> = VecLinkInfoOf(nlas(items));
-    let [plain, flagged, short] = VLANS;
+    let [plain, flagged, _] = VLANS;
     let plain = bytes_of(plain);
     let flagged = bytes_of(flagged);
+    assert_equivalent(&list, &plain, &flagged);
+}
+
+/// An error names the family that the layer supplies; opaque families accept every payload.
+#[test]
+fn errors_of_a_custom_layer() {
+    let [_, _, short] = VLANS;
     let short = bytes_of(short);
-    assert_parses(
-        &"flagged",
-        VecLinkInfoOf::<Layered<AnyLayer>>::parse(&flagged),
-        &list,
-    );
-    assert_equal(
-        &"both",
-        &same_of::<Layered<AnyLayer>>(&plain, &flagged),
-        &Ok(true),
-    );
-    assert_emitted(list.as_slice(), &plain);
-    // An error names the family that the layer supplies; opaque families accept every payload.
     let error = DecodeError {
         family: Family::Xfrm,
         kind: 2,
         cause: Cause::Length,
     };
-    assert_equal(
-        &"short",
-        &check_of::<Layered<AnyLayer>>(&short),
-        &Err(error),
-    );
+    let checked = check_of::<Layered<AnyLayer>>(&short);
+    assert_equal(&"short", &checked, &Err(error));
     assert_equal(&"opaque", &check(&short), &Ok(()));
 }

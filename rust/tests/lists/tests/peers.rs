@@ -7,11 +7,11 @@ use super::assertions::{
 };
 use super::worked::VETH_TAIL;
 use crate::support::*;
-use linkinfo::layers::link::families::BitPeer;
+use linkinfo::layers::link::families::{BitPeer, DataLayer};
 use linkinfo::layers::link::{
-    CanonError, CanonIntoError, Cause, DecodeError, Family, HeaderCount, InfoDataOf, InfoKind,
-    InfoNetkitOf, InfoVethOf, InfoVxcanOf, LinkInfoOf, VecLinkInfoOf, canon_into_of, canon_of,
-    check_counted_of, check_of, same, same_counted_of, same_of,
+    CanonError, CanonIntoError, Cause, DecodeError, ExactEq, Family, HeaderCount, InfoDataOf,
+    InfoKind, InfoNetkitOf, InfoVethOf, InfoVxcanOf, LinkInfoOf, VecLinkInfoOf, canon_into_of,
+    canon_of, check_counted_of, check_of, same, same_counted_of, same_of,
 };
 
 /// A veth link whose peer is the byte 7.
@@ -21,18 +21,26 @@ const PEER_OF_SEVEN: &str = "09000100 76657468 00000000 09000200 05000100 07";
 const PEER_OF_NINE: &str = "09000100 76657468 00000000 09000200 05000100 09";
 
 /// Asserts that the bytes parse as the list, and that this many headers are examined.
-fn assert_read(bytes: &[u8], wanted: &VecLinkInfoOf<BitPeer>, headers: usize) {
-    let read = VecLinkInfoOf::<BitPeer>::parse(bytes);
+fn assert_read<P: DataLayer>(bytes: &[u8], wanted: &VecLinkInfoOf<P>, headers: usize)
+where
+    P::Data: PartialEq,
+    P::PortData: PartialEq,
+{
+    let read = VecLinkInfoOf::<P>::parse(bytes);
     assert_parses(&bytes, read, wanted);
     let mut count = HeaderCount::new();
-    let counted = VecLinkInfoOf::<BitPeer>::parse_counted(bytes, &mut count);
+    let counted = VecLinkInfoOf::<P>::parse_counted(bytes, &mut count);
     assert_parses(&bytes, counted, wanted);
     assert_equal(&bytes, &count.get(), &headers);
 }
 
 /// Asserts that the list is equal to its clone, and is written as the canonical encoding, into a
 /// buffer and by `to_vec`.
-fn assert_written(list: &VecLinkInfoOf<BitPeer>, canonical: &[u8]) {
+fn assert_written<P: DataLayer + Clone>(list: &VecLinkInfoOf<P>, canonical: &[u8])
+where
+    P::Data: PartialEq + Clone,
+    P::PortData: PartialEq + Clone,
+{
     assert_holds(&canonical, list.try_clone().expect("memory") == *list);
     assert_emitted(list.as_slice(), canonical);
     let written = list.try_to_vec().expect("a string");
@@ -40,21 +48,28 @@ fn assert_written(list: &VecLinkInfoOf<BitPeer>, canonical: &[u8]) {
 }
 
 /// Asserts that `canon` returns the canonical encoding of the bytes.
-fn assert_canonical(bytes: &[u8], canonical: &[u8]) {
-    let string = canon_of::<BitPeer>(bytes).expect("a canonical string");
+fn assert_canonical<P: DataLayer>(bytes: &[u8], canonical: &[u8]) {
+    let string = canon_of::<P>(bytes).expect("a canonical string");
     assert_equal(&bytes, &string.as_slice(), &canonical);
     let len = canonical.len();
     let mut buffer = repeated(255, len);
-    let written = canon_into_of::<BitPeer>(bytes, &mut buffer);
+    let written = canon_into_of::<P>(bytes, &mut buffer);
     assert_equal(&bytes, &written, &Ok(len));
     assert_equal(&bytes, &buffer.as_slice(), &canonical);
-    let written = canon_into_of::<BitPeer>(bytes, &mut []);
+    let written = canon_into_of::<P>(bytes, &mut []);
     assert_equal(&bytes, &written, &Err(CanonIntoError::Short(len)));
 }
 
 /// Asserts that the bytes of the text, and the canonical encoding, parse as the list, with this
 /// many headers examined, and that the list is written as the canonical encoding.
-fn assert_list(list: VecLinkInfoOf<BitPeer>, (bytes, canonical): (&[u8], &[u8]), headers: usize) {
+fn assert_list<P: DataLayer + Clone>(
+    list: VecLinkInfoOf<P>,
+    (bytes, canonical): (&[u8], &[u8]),
+    headers: usize,
+) where
+    P::Data: PartialEq + Clone,
+    P::PortData: PartialEq + Clone,
+{
     assert_read(bytes, &list, headers);
     assert_read(canonical, &list, headers);
     assert_written(&list, canonical);
@@ -63,21 +78,26 @@ fn assert_list(list: VecLinkInfoOf<BitPeer>, (bytes, canonical): (&[u8], &[u8]),
 /// Asserts that the bytes of the text parse as a link of the kind with the data, with this many
 /// headers examined, and that the link is written as the canonical encoding. The other text has a
 /// peer that is equivalent as a bit, and not as bytes.
-fn assert_bits(
+///
+/// The layer is a parameter here and above, so that all of it is needed in one call of a test.
+fn assert_bits<P: DataLayer + Clone>(
     (text, other, canonical): (&str, &str, &str),
-    items: [LinkInfoOf<BitPeer>; 2],
+    items: [LinkInfoOf<P>; 2],
     headers: usize,
-) {
+) where
+    P::Data: ExactEq + Eq + Clone,
+    P::PortData: ExactEq + Eq + Clone,
+{
     let list = VecLinkInfoOf(nlas(items));
     let canonical = bytes_of(canonical);
     let bytes = bytes_of(text);
     assert_list(list, (&bytes, &canonical), headers);
-    assert_equal(&text, &check_of::<BitPeer>(&bytes), &Ok(()));
+    assert_equal(&text, &check_of::<P>(&bytes), &Ok(()));
     let other = bytes_of(other);
-    assert_equal(&text, &same_of::<BitPeer>(&bytes, &other), &Ok(true));
+    assert_equal(&text, &same_of::<P>(&bytes, &other), &Ok(true));
     assert_equal(&text, &same(&bytes, &other), &Ok(false));
-    assert_canonical(&bytes, &canonical);
-    assert_canonical(&other, &canonical);
+    assert_canonical::<P>(&bytes, &canonical);
+    assert_canonical::<P>(&other, &canonical);
 }
 
 /// A link with data whose peer is a bit.
@@ -133,21 +153,21 @@ fn counts_of_bits() {
     assert_equal(&case, &comparing.get(), &12);
 }
 
-/// The error of a byte string, with bits as peers.
-fn error_of(bytes: &[u8]) -> Option<DecodeError> {
-    VecLinkInfoOf::<BitPeer>::parse(bytes).err()
-}
-
-/// Asserts that each call whose peers are bits rejects the bytes of the text with this error.
-fn assert_rejected(text: &str, bytes: &[u8], error: DecodeError) {
-    let rewritten = canon_of::<BitPeer>(bytes).err();
-    let written = canon_into_of::<BitPeer>(bytes, &mut []);
-    assert_equal(&text, &check_of::<BitPeer>(bytes), &Err(error));
-    assert_equal(&text, &error_of(bytes), &Some(error));
+/// Asserts that each call over the layer rejects the bytes of the text with this error.
+fn assert_rejected<P: DataLayer>(text: &str, bytes: &[u8], error: DecodeError)
+where
+    P::Data: ExactEq + Eq,
+    P::PortData: ExactEq + Eq,
+{
+    let read = VecLinkInfoOf::<P>::parse(bytes).err();
+    let rewritten = canon_of::<P>(bytes).err();
+    let written = canon_into_of::<P>(bytes, &mut []);
+    assert_equal(&text, &check_of::<P>(bytes), &Err(error));
+    assert_equal(&text, &read, &Some(error));
     assert_equal(&text, &rewritten, &Some(CanonError::Refused(error)));
     assert_equal(&text, &written, &Err(CanonIntoError::Refused(error)));
-    assert_equal(&text, &same_of::<BitPeer>(bytes, &[]), &Err(error));
-    assert_equal(&text, &same_of::<BitPeer>(&[], bytes), &Err(error));
+    assert_equal(&text, &same_of::<P>(bytes, &[]), &Err(error));
+    assert_equal(&text, &same_of::<P>(&[], bytes), &Err(error));
 }
 
 /// Links with a peer of two bytes, and the families that their errors name.
@@ -176,7 +196,7 @@ fn peers_that_are_no_bits() {
             kind: 1,
             cause: Cause::Peer,
         };
-        assert_rejected(text, &bytes, error);
+        assert_rejected::<BitPeer>(text, &bytes, error);
         assert_equal(text, &same(&bytes, &bytes), &Ok(true));
     }
 }

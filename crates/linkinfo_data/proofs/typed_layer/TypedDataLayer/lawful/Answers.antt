@@ -5,4 +5,5 @@ use Rattle.linkinfo_data.specs.DataLawful.{data_lawful}
 pub returns : goal.returns
 returns g c =
     data_lawful _
-    (typed_is_layer g.P.LinkPeer g.met.P.LinkPeer.lawful c.supplied_lawful.ensures)
+    (typed_is_layer g.P.LinkPeer g.met.P.LinkPeer.lawful c.supplied_lawful.ensures
+    c.supplied_lawful-2.ensures c.supplied_lawful-3.ensures c.supplied_lawful-4.ensures)
