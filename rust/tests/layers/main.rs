@@ -5,6 +5,7 @@
 
 #![allow(
     unused_imports,
+    clippy::err_expect,
     clippy::manual_next_back,
     clippy::manual_range_contains,
     clippy::needless_lifetimes,

@@ -39,6 +39,7 @@ PARTLY_USED = "dead_code, unused_imports, unused_macros"
 # Some imports were used in contracts alone, and clippy's forms of these would be other text.
 TEST_ROOT = """#![allow(
     unused_imports,
+    clippy::err_expect,
     clippy::manual_next_back,
     clippy::manual_range_contains,
     clippy::needless_lifetimes,
