@@ -13,7 +13,7 @@
  *
  *   int has_all(const uint8_t *have, size_t have_length, const uint8_t *want,
  *               size_t want_length) {
- *     char text[33];
+ *     char text[37];
  *     struct linkinfo_unmet unmet =
  *         linkinfo_first_unmet(have, have_length, want, want_length);
  *     if (unmet.rejected == 0) return unmet.met;
@@ -170,7 +170,12 @@ enum linkinfo_family {
   LINKINFO_FAMILY_WIREGUARD = 35,
   LINKINFO_FAMILY_WWAN = 36,
   LINKINFO_FAMILY_XFRM = 37,
-  LINKINFO_FAMILY_VLANQOSMAPPING = 38
+  LINKINFO_FAMILY_VLANQOSMAPPING = 38,
+  LINKINFO_FAMILY_BONDADINFO = 39,
+  LINKINFO_FAMILY_BRIDGEQUERIERSTATE = 40,
+  LINKINFO_FAMILY_CANTDC = 41,
+  LINKINFO_FAMILY_CANCTRLMODEEXT = 42,
+  LINKINFO_FAMILY_CANPWM = 43
   /* End: written by tables/generate. */
 };
 
@@ -776,7 +781,7 @@ size_t linkinfo_port_kind_name(uint16_t port_kind, char *buffer,
 /*
  * linkinfo_error_text - family, type and cause of an error as a text
  * @error: the error
- * @buffer: where the text and a NUL are written, truncated to the buffer; 33
+ * @buffer: where the text and a NUL are written, truncated to the buffer; 37
  * bytes are enough
  * @buffer_length: its length in bytes
  *
@@ -795,7 +800,7 @@ size_t linkinfo_error_text(struct linkinfo_error error, char *buffer,
  * @offset: the offset that the sentence names, as that of
  * linkinfo_check_inner()
  * @buffer: where the sentence and a NUL are written, truncated to the buffer;
- * 105 bytes are enough
+ * 121 bytes are enough
  * @buffer_length: its length in bytes
  *
  * The sentence is as "IFLA_INFO_DATA before IFLA_INFO_KIND, at offset 0". It is
@@ -814,7 +819,7 @@ size_t linkinfo_error_message(struct linkinfo_error error, size_t offset,
  * linkinfo_attribute_name - the kernel's name of an attribute's type
  * @family: enum linkinfo_family
  * @type: the type without its two flag bits
- * @buffer: where the name and a NUL are written, truncated to the buffer; 32
+ * @buffer: where the name and a NUL are written, truncated to the buffer; 48
  * bytes are enough
  * @buffer_length: its length in bytes
  *

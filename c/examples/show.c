@@ -25,7 +25,7 @@ static uint8_t *from_hex(const char *text, size_t *length) {
 
 /* Prints the error of a list, where it has one. */
 static bool is_rejected(const char *whose, const uint8_t *bytes, size_t length) {
-  char text[33];
+  char text[37];
   struct linkinfo_error_at at = linkinfo_check_at(bytes, length);
   if (at.error.cause == LINKINFO_CAUSE_NONE) return false;
   linkinfo_error_text(at.error, text, sizeof text);
@@ -100,7 +100,7 @@ static void show_data(const uint8_t *list, const struct linkinfo_item *item) {
 /* Whether the link has all that is wanted; prints the first attribute that it has not. */
 static bool is_as_wanted(const uint8_t *have, size_t have_length, const uint8_t *want,
                          size_t want_length) {
-  char family[16];
+  char family[32];
   struct linkinfo_unmet unmet = linkinfo_first_unmet(have, have_length, want, want_length);
   if (unmet.met) {
     puts("as wanted");

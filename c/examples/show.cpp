@@ -28,7 +28,7 @@ static unsigned type_of(uint16_t raw_type) { return raw_type & NLA_TYPE_MASK; }
 
 // A text that a call writes: the call, and what its text is of.
 template <typename Call, typename Of> static std::string text(Call call, Of of) {
-  std::string text(32, 0);
+  std::string text(37, 0);
   text.resize(call(of, text.data(), text.size()));
   return text;
 }

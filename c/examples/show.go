@@ -30,7 +30,7 @@ func pointer(bytes []byte) *C.uint8_t {
 }
 
 func text(write func(buffer *C.char, length C.size_t) C.size_t) string {
-	var buffer [32]C.char
+	var buffer [37]C.char
 	write(&buffer[0], C.size_t(len(buffer)))
 	return C.GoString(&buffer[0])
 }

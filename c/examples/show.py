@@ -24,7 +24,7 @@ class Error(Structure):
     _fields_ = [("family", c_uint16), ("type", c_uint16), ("cause", c_uint32)]
 
     def __str__(self):
-        text = ctypes.create_string_buffer(32)
+        text = ctypes.create_string_buffer(37)
         library.linkinfo_error_text(self, text, len(text))
         return text.value.decode()
 
@@ -161,7 +161,7 @@ def is_as_wanted(have, want):
     if unmet.met:
         print("as wanted")
         return True
-    family = ctypes.create_string_buffer(16)
+    family = ctypes.create_string_buffer(32)
     library.linkinfo_family_name(unmet.family, family, len(family))
     found = f"and another one at byte {unmet.have}" if unmet.is_present else "and none"
     attribute = f"{family.value.decode()} {unmet.type} at byte {unmet.want}"

@@ -149,7 +149,7 @@ mod linkinfo {
     }
 
     fn text(write: impl Fn(*mut c_char, usize) -> usize) -> String {
-        let mut buffer = [0u8; 32];
+        let mut buffer = [0u8; 37];
         let length = write(buffer.as_mut_ptr().cast(), buffer.len());
         String::from_utf8_lossy(&buffer[..length.min(buffer.len() - 1)]).into_owned()
     }

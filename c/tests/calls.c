@@ -312,7 +312,7 @@ static void values_of(const uint8_t *bytes, size_t length, uint16_t kind) {
 
 /* The last numbers of families, kinds and port kinds. */
 /* Begin: written by tables/generate from tables/kinds. */
-enum { LAST_FAMILY = 38, LAST_KIND = 47, LAST_PORT_KIND = 260 };
+enum { LAST_FAMILY = 43, LAST_KIND = 47, LAST_PORT_KIND = 260 };
 /* End: written by tables/generate. */
 
 /* The attributes of data, of its kind and of every other kind. */
@@ -610,8 +610,9 @@ static void texts(void) {
         linkinfo_kind_of_name("rmnet", 5) == LINKINFO_KIND_RMNET);
   CHECK(linkinfo_port_kind_of_name("bridge", 6) == LINKINFO_PORT_KIND_BRIDGE &&
         linkinfo_port_kind_of_name("vxlan", 5) == LINKINFO_PORT_KIND_OTHER);
-  struct linkinfo_error error = {LINKINFO_FAMILY_BRIDGEPORT, 65535, LINKINFO_CAUSE_ADDRESS_KIND};
-  text_is("bridgeport 65535 addresskind", write_error, &error);
+  struct linkinfo_error error = {LINKINFO_FAMILY_BRIDGEQUERIERSTATE, 65535,
+                                 LINKINFO_CAUSE_ADDRESS_KIND};
+  text_is("bridgequerierstate 65535 addresskind", write_error, &error);
   struct linkinfo_error short_error = {LINKINFO_FAMILY_FRAME, 0, LINKINFO_CAUSE_HEADER};
   text_is("frame 0 header", write_error, &short_error);
   struct linkinfo_error none = {LINKINFO_FAMILY_XFRM, 2, LINKINFO_CAUSE_NONE},

@@ -78,7 +78,7 @@ static void write_offset(bool is_there, size_t offset, char *text, size_t length
 
 static int is_pair(size_t row) {
   static struct string a, b;
-  char result[128], name[32], first[32], second[32];
+  char result[128], name[37], first[32], second[32];
   if (!from_hex(pairs[row].first, &a) || !from_hex(pairs[row].second, &b)) return 0;
   struct linkinfo_difference found =
       linkinfo_first_difference(a.bytes, a.length, b.bytes, b.length);
@@ -100,7 +100,7 @@ static int is_pair(size_t row) {
 
 static int is_error(size_t row) {
   static struct string list;
-  char result[128], text[33];
+  char result[128], text[37];
   if (!from_hex(errors[row].list, &list)) return 0;
   struct linkinfo_inner_error found = linkinfo_check_inner(list.bytes, list.length);
   linkinfo_error_text(found.error, text, sizeof text);

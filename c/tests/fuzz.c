@@ -50,7 +50,7 @@ static void inside(const uint8_t *bytes, size_t length, uint16_t kind) {
 
 static struct linkinfo_error one(const uint8_t *bytes, size_t length) {
   static struct linkinfo_item items[ROOM / 4];
-  static char text[33];
+  static char text[37];
   struct linkinfo_error error = linkinfo_check(bytes, length);
   struct linkinfo_error_at placed = linkinfo_check_at(bytes, length);
   struct linkinfo_count_result count = linkinfo_count(bytes, length);

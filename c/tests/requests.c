@@ -41,7 +41,7 @@ static const struct string *find(const struct string *all, size_t count, const c
 
 /* A result in the form of a line of the file. */
 static void write_result(const struct linkinfo_unmet *unmet, char *text, size_t length) {
-  char name[32], have[32] = "-";
+  char name[37], have[32] = "-";
   if (unmet->rejected != 0) {
     linkinfo_error_text(unmet->error, name, sizeof name);
     snprintf(text, length, "error %u %s", (unsigned)unmet->rejected, name);

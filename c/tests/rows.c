@@ -68,7 +68,7 @@ static int has_shape(size_t at, unsigned type) {
 
 /* The names of types by family, or an empty text. */
 enum { MOST_FAMILIES = 64 };
-static char called[MOST_FAMILIES][TYPES][32];
+static char called[MOST_FAMILIES][TYPES][48];
 static size_t name_count;
 
 static int keep_name(const char *family, unsigned type, const char *name) {
@@ -85,7 +85,7 @@ static int keep_name(const char *family, unsigned type, const char *name) {
 }
 
 static int has_name(uint16_t family, uint16_t type) {
-  char text[32];
+  char text[48];
   size_t length = linkinfo_attribute_name(family, type, text, sizeof text);
   if (length == strlen(called[family][type]) && strcmp(text, called[family][type]) == 0) return 1;
   fprintf(stderr, "family %u, type %u: '%s', and not '%s'\n", family, type, text,
@@ -113,10 +113,10 @@ static size_t known_kinds(void) {
 }
 
 int main(void) {
-  char way[8], name[32], shape[32];
+  char way[8], name[32], shape[48];
   unsigned type, seen[SHAPES] = {0};
   size_t rows = 0;
-  while (scanf("%7s %31s %u %31s", way, name, &type, shape) == 4) {
+  while (scanf("%7s %31s %u %47s", way, name, &type, shape) == 4) {
     uint16_t number = 0;
     if (strcmp(way, "name") == 0) {
       if (!keep_name(name, type, shape)) return 1;

@@ -96,11 +96,11 @@ static void *values(void *wrong) {
   return all.count == 1 && found[0].value.value_type == LINKINFO_VALUE_LIST ? NULL : wrong;
 }
 static void *texts(void *wrong) {
-  char text[33];
-  struct linkinfo_error error = {LINKINFO_FAMILY_VLANQOSMAPPING, 65535,
+  char text[37];
+  struct linkinfo_error error = {LINKINFO_FAMILY_BRIDGEQUERIERSTATE, 65535,
                                  LINKINFO_CAUSE_ADDRESS_KIND};
-  return linkinfo_error_text(error, text, sizeof text) == 32 &&
-                 linkinfo_family_name(error.family, text, sizeof text) == 14 &&
+  return linkinfo_error_text(error, text, sizeof text) == 36 &&
+                 linkinfo_family_name(error.family, text, sizeof text) == 18 &&
                  linkinfo_cause_name(error.cause, text, sizeof text) == 11 &&
                  linkinfo_attribute_name(LINKINFO_FAMILY_XFRM, 1, text, sizeof text) == 14 &&
                  linkinfo_error_message(error, 0, text, sizeof text) > sizeof text

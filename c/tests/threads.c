@@ -37,7 +37,7 @@ static int insides_stand(const uint8_t *bytes, const struct linkinfo_item *item)
 static void *calls(void *unused) {
   (void)unused;
   struct linkinfo_item items[16];
-  char text[32];
+  char text[37];
   uint8_t canonical[2 * MOST_BYTES];
   for (int round = 0; round < ROUNDS; round++) {
     for (size_t i = 0; i < string_count; i++) {

@@ -71,10 +71,15 @@ def cells(line):
 
 
 def numbered(path, root):
-    """The lines of a file with their places."""
-    text = path.read_text(encoding="utf-8")
-    return [(f"{path.relative_to(root)}:{at}", line)
-            for at, line in enumerate(text.splitlines(), 1)]
+    """The lines of a file with their places; one that ends with `\\` goes on in the next."""
+    found = []
+    for at, line in enumerate(path.read_text(encoding="utf-8").splitlines(), 1):
+        if found and found[-1][1].endswith("\\"):
+            place, before = found.pop()
+            found.append((place, f"{before[:-1]}  {line.strip()}"))
+        else:
+            found.append((f"{path.relative_to(root)}:{at}", line))
+    return found
 
 
 def head(lines):

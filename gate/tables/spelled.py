@@ -9,7 +9,7 @@ FORMS = {"names": (r"[A-Z][A-Z0-9_]*", "no name of capitals, digits and _"),
          "variants": (r"[A-Z]\w*", "no name of a variant"),
          "member": (r"(?!others$|rest$)[a-z][a-z0-9_]*|", "no member")}
 # The most bytes of a name that the library returns (`attribute_name`).
-MOST = 31
+MOST = 47
 # The words of a `links` line that are no kind: of families inside others, and of ports.
 NO_KIND = re.compile(r"^(in |ports of )|, and its ports$")
 

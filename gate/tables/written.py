@@ -46,9 +46,16 @@ def names(families, _values):
             for at, name in enumerate(family.names)}
 
 
+def seen(family, row):
+    """The shape by which a row is shown: `ip` has booleans of the typed layer as numbers."""
+    if row.has_own_type:
+        return "Raw"
+    return "U8" if family.layered and row.layout == "Truth" and not row.format else row.layout
+
+
 def shown(family, kind):
     """The rows that are shown of a kind."""
-    return [(row.number, row.member, "Raw" if row.has_own_type else row.layout, row.format)
+    return [(row.number, row.member, seen(family, row), row.format)
             for row in family.of_kind(kind) if row.member]
 
 

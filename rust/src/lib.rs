@@ -71,8 +71,9 @@
 //! - **Families of attributes**: one enum for the data of each kind or of several, as
 //!   [`InfoVxlan`], [`InfoGre`] or [`InfoMacSec`]. Those of bond, bridge, vlan and others are kept
 //!   verbatim ([`InfoBond`], [`InfoBridge`], [`InfoVlan`]).
-//! - **Typed attributes of dsa, hsr, tun and vlan links**: the module [`typed`] has lists, data and
-//!   calls by the same names, over a layer in which these attributes have types
+//! - **Typed attributes of bond, bridge, vlan and other links**: the module [`typed`] has lists,
+//!   data and calls by the same names, over a layer in which the attributes of bond, bridge, can,
+//!   dsa, hsr, tun and vlan links, and of ports of bonds and bridges, have types
 //!   ([`typed::InfoVlan`]). Import the module, or some names of it: its names are those of the
 //!   root. [`LinkLayer`] is for a layer of your own.
 //! - **Peers** of veth, vxcan and netkit links: a type that implements [`LinkPeer`], in
@@ -210,11 +211,15 @@ pub use bitflags::Flags;
 #[doc(inline)]
 // Begin: written by tables/generate from tables/numbers.
 pub use layers::numbers::{
-    AmtMode, ErSpanDir, EthernetProtocol, GeneveDf, GreEncapFlags, GreEncapType, GreIOFlags,
-    GtpRole, HsrProtocol, InfoRmNetFlags, Ip6TunnelFlags, IpProtocol, IpVlanFlags, IpVlanMode,
-    IpVtapFlags, IpVtapMode, IpoibMode, MacSecCipherId, MacSecOffload, MacSecValidate,
-    MacVlanFlags, MacVlanMacAddressMode, MacVlanMode, MacVtapFlags, MacVtapMacAddressMode,
-    MacVtapMode, NetkitMode, NetkitPolicy, NetkitScrub, RmNetFlags, TunType, TunnelEncapFlags,
+    AmtMode, BondAdSelect, BondAllPortActive, BondArpAllTargets, BondArpValidate, BondFailOverMac,
+    BondLacpRate, BondMode, BondPortState, BondPrimaryReselect, BondXmitHashPolicy,
+    BridgeBooleanOptionFlags, BridgeMulticastRouterType, BridgePortState, BridgeStpMode,
+    BridgeStpState, CanCtrlModeFlags, CanState, ChurnState, ErSpanDir, EthernetProtocol, GeneveDf,
+    GreEncapFlags, GreEncapType, GreIOFlags, GtpRole, HsrProtocol, InfoRmNetFlags, Ip6TunnelFlags,
+    IpProtocol, IpVlanFlags, IpVlanMode, IpVtapFlags, IpVtapMode, IpoibMode, LacpState,
+    LacpState16, MacSecCipherId, MacSecOffload, MacSecValidate, MacVlanFlags,
+    MacVlanMacAddressMode, MacVlanMode, MacVtapFlags, MacVtapMacAddressMode, MacVtapMode,
+    MiiStatus, NetkitMode, NetkitPolicy, NetkitScrub, OnOff, RmNetFlags, TunType, TunnelEncapFlags,
     TunnelEncapType, VlanFlags, VlanProtocol, VxlanDf,
 };
 // End: written by tables/generate.

@@ -117,6 +117,8 @@ class Family:
         self.kinds = re.findall(r"\w+", self.links.split(", and its")[0].replace(" and ", ", "))
         kinds = [f"`{kind}`" for kind in self.kinds]
         self.of_links = self.about if self.inner else f"{listed(kinds)} links"
+        if self.links.startswith("ports of "):
+            self.of_links = self.links
         self.where = "inside" if self.inner else "in the data of"
         self.lookup, self.shape_of = [("table_lookup", "shape_of"),
                                       ("typed_lookup", "typed_shape_of")][self.layered]

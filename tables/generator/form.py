@@ -1,7 +1,8 @@
 """Reads the form of all tables: a title, a head, and rows of columns with doc comments below them.
 
 Columns are two or more spaces apart, and `-` is an empty cell. A doc comment is a line that begins
-with spaces; a line that is indented further continues it.
+with spaces; a line that is indented further continues it. A line that ends with `\\` goes on in the
+next, with another column.
 """
 import collections
 import dataclasses
@@ -64,7 +65,20 @@ def lines(root, name):
     for line in found:
         if "\t" in line.text or line.text != line.text.rstrip():
             raise line.bad("a tab" if "\t" in line.text else "a trailing blank")
-    return found
+    return joined(found)
+
+
+def joined(found):
+    """The lines, each with those that it goes on in."""
+    given = []
+    for line in found:
+        if given and given[-1].text.endswith("\\"):
+            before = given.pop()
+            line = before._replace(text=f"{before.text[:-1].rstrip()}  {line.text.strip()}")
+        given.append(line)
+    if given[-1].text.endswith("\\"):
+        raise given[-1].bad("the line goes on, and there is no other")
+    return given
 
 
 def cells(text):

@@ -4,6 +4,8 @@ import re
 from .families import NEST
 from .text import CALL, MOST, broken, constructor, fill, laid, pairs, snake, spelled
 
+OWNING = {"Name", "Raw"}            # shapes whose values own memory
+FOUND = {"I32", *OWNING}            # shapes of which a search finds that a row is stored
 LISTED = 2      # up to so many rows of payloads are a list; more are a tree of such lists
 SEARCHED = 10   # up to so many variants, `ExactEq` is found by a search
 LONG = 8        # from so many rows on, what a label keeps is a line for each row
@@ -11,7 +13,7 @@ KNOWN = {"number": "Decides-eqb", "truth": "booleans_Decides",
          "sets": "(λ a b. Prim.search rules)",
          "pair": "(two_fields Decides-eqb Decides-eqb)",
          "numbers": "(pointwise_decides Decides-eqb)"}
-CONTRACTS = {"[u8; 6]": "ArrayU86"}     # how names of contracts have a type
+CONTRACTS = {"[u8; 6]": "ArrayU86", "i32": "I32"}     # how names of contracts have a type
 ADDRESSES = {"ipv4_list": "Ipv4Addr", "ipv6_list": "Ipv6Addr"}      # of lists, by their entries
 HOW = {"number": " as ‹›", "reference": " as &‹›", "flags": " as flags ‹›",
        "pair": " by flags_of, pair_of", "sets": " by flags_of, pair_of",
@@ -54,7 +56,8 @@ def stored(row, marks, seen):
         bits = result("from_bits_retain")
         made = f"(ap (λ n. {constructor(row.variant)} ({marks['value']} n)) ({bits}.ensures tt))"
     elif row.value:
-        made = f"(ap (λ x. {constructor(row.variant)} x) {result('from')}.ensures)"
+        call = result("flags_of" if row.made in ("pair", "sets") else "from")
+        made = f"(ap (λ x. {constructor(row.variant)} x) {call}.ensures)"
     return {"read": read, "made": made}
 
 
@@ -71,6 +74,8 @@ def exact(row, at, lets, is_listed):
         field, decides = ADDRESSES[entry], "(pointwise_decides {}_exact)"
     elif row.payload:
         where = "linkinfo_payloads.specs.contracts.records"
+    elif entry in ("bytes", "text"):
+        where = f"nla_frame.specs.contracts.{entry}"
     field = CONTRACTS.get(field, field)
     is_new = is_listed and bool(field) and entry not in lets
     found = {"entry": entry, "decides": KNOWN.get(entry, decides.format(entry)),
@@ -114,7 +119,8 @@ def of_row(row):
         "made_from": row.made == "flags" or row.numbered, "variable": row.layout.variable,
         "condition": row.layout.condition,
         "said": (simple or bool(own)) and row.layout.condition,
-        "arm": not (row.two or row.payload), "plain": not row.under,
+        "owning": row.shape in OWNING,
+        "arm": not (row.two or row.payload or row.shape in FOUND), "plain": not row.under,
         "names": ", ".join(row.variants)}
 
 
@@ -259,8 +265,8 @@ def custom(family, inner):
         "nested": bool(inner), "flat": not inner, "is_inner": family.inner,
         "is_set": str(family.is_set).lower(),
         "of_family": bool(inner) or family.inner, "inner_types": "\n".join(
-            f"use crate::{module}::{name};" for module, name in dict.fromkeys(
-                (row["inner_module"], row["inner"]) for row in lists)),
+            f"use crate::{module}::{name};" for module, name in sorted({
+                (row["inner_module"], row["inner"]) for row in lists})),
         "has_lists": bool(lists), "owns": bool(owns), "own_types": ", ".join(types),
         "own_codecs": ", ".join(f"{own}_{end}" for own in owns for end in ("codec", "payload")),
         "pointwise": any(row["inner"] or "<" in row["field"] for row in inner),

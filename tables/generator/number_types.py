@@ -34,7 +34,7 @@ def words_hold(kind):
     head = f"{it}_words_hold ="
     call = f"reads_words family.{kind.family} {it}_text {it}_table.named"
     return fitting(f"{head} {call} {proofs}", f"{head}\n    {call} {proofs}",
-                   f"{head} {call}\n    {proofs}")
+                   f"{head} {call}\n    {proofs}", f"{head}\n    {call}\n    {proofs}")
 
 
 def listed(kind):
@@ -59,6 +59,8 @@ def type_row(kind):
     """What templates have of a type."""
     others, default = kind.more.get("others"), kind.more.get("default")
     ref, (doc, header) = "&" * (kind.made == "reference"), doc_of(kind)
+    first = kind.values[0]["name"]
+    said = f": `{first}` and the others" if first else ""
     return {
         **vars(kind), "file": camel(kind.module), "bits": str(kind.bits), "doc": doc,
         "header": header, "number": not kind.is_set, "ref": ref, "now": ".now" * bool(ref),
@@ -68,7 +70,7 @@ def type_row(kind):
         "apart": pairs(["λ p. cc"] * len(kind.values), "  "), "words_hold": words_hold(kind),
         "every": "0x" + "f" * (kind.bits // 4),
         "other_text": f'codes "{others[:-2]}" ++ decimal n ++ codes ")"' if others else "decimal n",
-        "law": f"{kind.snake.removesuffix('s')}_bits", "first": kind.values[0]["name"],
+        "law": f"{kind.snake.removesuffix('s')}_bits", "first_said": said,
         "page_numbers": listed(kind), "page_read": f"yes ({kind.family})" if kind.family else "no",
         "page_default": "none" if default is None else default or "empty",
         "page_texts": ", ".join([it["word"] for it in kind.values] + [f"`{others}`" if others

@@ -12,7 +12,11 @@ TEMPLATES = pathlib.Path(__file__).resolve().parent.parent / "templates"
 FORM = re.compile(r"(?m)^\? (.*)\n")
 ONLY_IF = re.compile(r"\[(\w+)\] ?")
 GHOST = re.compile(r"( *ghost \w+ = \{ λ[\w ]+\.) ")
+RECORD = re.compile(r"( *)record \{ (.*) \}")
+IN_CODE = re.compile(r" *(ensures|ghost) ")
 EQUATION = re.compile(r"( *⟦[^≡]*) (≡ )")
+EQUALS = re.compile(r"(\w.*? =) (.*)")
+NOT_WRAPPED = re.compile(r" *(//|--|\||(ghost |pub )*use |pub(\(crate\))? const |\")|.*`")
 IMPORT = re.compile(r"( *(?:ghost |pub )?use .*)(\.|::)\{(.*)\}(;?)")
 
 
@@ -58,7 +62,7 @@ def joined(lines):
 
 def line_of(line):
     """A line without marks, and broken if it is long: a doc comment, an import, a definition of a
-    ghost, an equation, or a block."""
+    ghost, a record, an equation, or a block."""
     plain, indent = re.sub("[⟪⟫]", "", line), re.match(" *", line)[0]
     if len(plain) <= MOST:
         return plain
@@ -69,15 +73,32 @@ def line_of(line):
         return imports(used[1], used[2], used[3].split(", "), used[4])
     if GHOST.match(line):
         return GHOST.sub(rf"\1\n{indent}    ", line)
+    if RECORD.fullmatch(line):
+        fields = RECORD.fullmatch(line)[2].split("; ")
+        inner = "".join(f"{indent}  {it};\n" for it in fields)
+        return f"{indent}record {{\n{inner}{indent}}}"
     if EQUATION.match(line):
         return EQUATION.sub(rf"\1\n{indent}\2", line)
     return re.sub("⟪(.*)⟫,", f"{{\n{indent}    \\1\n{indent}}}", line)
 
 
+def wrapped(line):
+    """A line of terms, broken where it is longer than any line may be: behind the `=` of an
+    equation, then where no more words fit."""
+    indent = re.match(" *", line)[0]
+    if len(line) <= MOST or NOT_WRAPPED.match(line):
+        return line
+    head = EQUALS.fullmatch(line)
+    if head:
+        return f"{head[1]}\n{fill(head[2].split(' '), '    ')}"
+    further = "    " if not indent or IN_CODE.match(line) else ""
+    return fill(line.split(), indent, MOST - len(further)).replace("\n", "\n" + further)
+
+
 def put_in(text, row):
     """The text of a template for a row."""
     lines = "\n".join(expanded(text, row)).split("\n")
-    return "\n".join(map(line_of, joined(lines)))
+    return "\n".join(wrapped(line) for it in joined(lines) for line in line_of(it).split("\n"))
 
 
 def parts(template, selections):

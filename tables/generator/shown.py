@@ -5,7 +5,7 @@ from .parts import Part, Whole
 from .places import put_in, sections
 from .text import fill, listed, snake
 
-PARTS = {"Word": "Words", "List": "Elements", "Nested": "Table", **dict.fromkeys(
+PARTS = {"Word": "Words", "List": "Elements", "Nested": "Family", **dict.fromkeys(
     ["Bits", "Mask", "Names", "Options", "SecondNames"], "Flags")}
 
 
@@ -34,6 +34,14 @@ def shown(row):
     return f"{name}({PARTS[name]}::{part})" if part else name or "Plain"
 
 
+def seen(family, row):
+    """The shape by which a row is shown. A boolean of the typed layer without a format is shown as
+    its number."""
+    if row.payload:
+        return "Raw"
+    return "U8" if family.layered and row.shape == "Truth" and not row.shown else row.shape
+
+
 def view_marks(family):
     """What templates/lists has in its marks of each table to show."""
     for constant, said, title, rows in views(family):
@@ -41,7 +49,7 @@ def view_marks(family):
                "head": fill(f"**{title}**: {said}".split()),
                "others": family.links if family.parts and constant != "TUNNEL" else "",
                "values": [{**vars(row), "number": str(row.number), "format": shown(row),
-                           "shape": "Raw" if row.payload else row.shape} for row in rows]}
+                           "shape": seen(family, row)} for row in rows]}
 
 
 def page_marks(family):

@@ -93,6 +93,7 @@ class BadTables(Copy):
                            (b"# A\xff\n", "1: it is not UTF-8"),
                            (b"# A", "1: the last line has no end"),
                            (b"# A\n", "1: there is no empty line after the head"),
+                           (b"# A\\\n", "1: the line goes on, and there is no other"),
                            (b"# A\n\n", "2: the columns are not type")):
             with self.subTest(said):
                 (self.root / "tables/amt").write_bytes(data)

@@ -166,7 +166,7 @@ class Kinds(Copy):
     def setUp(self):
         super().setUp()
         for name, line in (("kinds", "48    baz  Baz  Tunnel Baz  a baz link\n"),
-                           ("families", "39    Baz  baz  the data of `baz` links\n")):
+                           ("families", "44    Baz  baz  the data of `baz` links\n")):
             with (self.root / "tables" / name).open("a", encoding="utf-8") as table:
                 table.write(line)
         (self.root / "tables/baz").write_text("""# Baz links
@@ -190,7 +190,7 @@ type  name  variant  layout  member  shown as
                 ("crates/linkinfo_numbers/src/tags.rt", "kinds (tags of three bytes)",
                  "        BAZ => KindTag::Baz,\n"),
                 ("crates/linkinfo_c/src/codes.rt", "kinds", "            Baz = 48,\n"),
-                ("crates/linkinfo_c/src/codes.rt", "families", "            Baz = 39,\n"),
+                ("crates/linkinfo_c/src/codes.rt", "families", "            Baz = 44,\n"),
                 ("c/linkinfo.h", "kinds",
                  "  LINKINFO_KIND_RMNET = 47,\n  LINKINFO_KIND_BAZ = 48\n"),
                 (f"{data}/src/tunnels.rt", "kinds (calls)",
@@ -210,9 +210,9 @@ type  name  variant  layout  member  shown as
                 ("crates/linkinfo_c/proofs/CausingData.antt", "kinds (tunnel)",
                  "tunnels_errors tunnel.Baz h p =\n"),
                 ("docs/FORMAT.md", "kinds", "| `baz` | Baz | Baz | Baz |\n"),
-                ("docs/FORMAT.md", "families (names)", "VlanQosMapping, Baz.\n"),
+                ("docs/FORMAT.md", "families (names)", "CanPwm, Baz.\n"),
                 ("c/tests/calls.c", "kinds",
-                 "enum { LAST_FAMILY = 39, LAST_KIND = 48, LAST_PORT_KIND = 260 };\n")):
+                 "enum { LAST_FAMILY = 44, LAST_KIND = 48, LAST_PORT_KIND = 260 };\n")):
             with self.subTest(f"{path} {name}"):
                 self.assertIn(text, found[path, name])
 

@@ -40,6 +40,19 @@ class Lines(unittest.TestCase):
         self.assertEqual(put_in(f"pub use a::{{{LONG}, b, {LONG}}};", {}),
                          f"pub use a::{{\n    {LONG}, b,\n    {LONG},\n}};")
 
+    def test_terms_that_are_long(self):
+        self.assertEqual(put_in(f"f (x y) = {LONG} {'b' * 40}", {}),
+                         f"f (x y) =\n    {LONG}\n    {'b' * 40}")
+        self.assertEqual(put_in(f"    {LONG} {'b' * 40} c", {}), f"    {LONG}\n    {'b' * 40} c")
+        self.assertEqual(put_in(f"    ghost a = {{ {LONG} {'b' * 40} }};", {}),
+                         f"    ghost a = {{ {LONG}\n        {'b' * 40} }};")
+        self.assertEqual(put_in(f"    ensures a {{ {LONG} ≡ {'b' * 40} }}", {}),
+                         f"    ensures a {{ {LONG} ≡\n        {'b' * 40} }}")
+        self.assertEqual(put_in(f"    record {{ a = {LONG}; b = {'b' * 40} }}", {}),
+                         f"    record {{\n      a = {LONG};\n      b = {'b' * 40};\n    }}")
+        for kept in (f"use A.{LONG}.{LONG} as a", f"// {LONG} {LONG}", f"| {LONG} | {LONG} |"):
+            self.assertEqual(put_in(kept, {}), kept)
+
 
 if __name__ == "__main__":
     unittest.main()

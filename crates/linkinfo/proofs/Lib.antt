@@ -7,6 +7,7 @@ pub mod MetAlike
 pub mod MetInside
 pub mod MetLasts
 pub mod MetNames
+pub mod MetRefined
 pub mod MetReordered
 pub mod MetStays
 pub mod Naming

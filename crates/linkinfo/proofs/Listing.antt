@@ -17,7 +17,7 @@ use Rattle.linkinfo.specs.Unmet.{contents_unmet}
 use Rattle.nla_frame.specs.declared.error.Family.TheVariants as family
 
 pub error_of_none : (c : Contents) (p : List ℕ) → family_in c ≡ None → error_in_payload c p ≡ 4
-error_of_none (NoList place) p e = refl
+error_of_none (NoList place count) p e = refl
 error_of_none (ListOf l inside) p e = absurd cc
 
 module _ (c : Contents) (p q : PlacedNla) where
@@ -27,7 +27,7 @@ module _ (c : Contents) (p q : PlacedNla) where
     where
       go : (c : Contents) → family_in c ≡ None →
           payload_difference c name alike p q ≡ pair_difference name alike p q
-      go (NoList place) e = refl
+      go (NoList place count) e = refl
       go (ListOf l inside) e = absurd cc
 
   pub difference_of_list : (name found : Family) (alike : Bool) → family_in c ≡ Some found →
@@ -38,7 +38,7 @@ module _ (c : Contents) (p q : PlacedNla) where
       go : (c : Contents) → family_in c ≡ Some found →
           payload_difference c name alike p q
           ≡ option_map (inner_difference p q) (difference_in c p.nla.value q.nla.value)
-      go (NoList place) e = absurd cc
+      go (NoList place count) e = absurd cc
       go (ListOf l inside) e = refl
 
   pub unmet_of_none : (met : Bool) → family_in c ≡ None →
@@ -47,7 +47,7 @@ module _ (c : Contents) (p q : PlacedNla) where
     where
       go : (c : Contents) → family_in c ≡ None →
           contents_unmet c met p q ≡ item_unmet family.LinkInfo met p q
-      go (NoList place) e = refl
+      go (NoList place count) e = refl
       go (ListOf l inside) e = absurd cc
 
   pub unmet_of_list : (found : Family) (met : Bool) → family_in c ≡ Some found →
@@ -58,7 +58,7 @@ module _ (c : Contents) (p q : PlacedNla) where
       go : (c : Contents) → family_in c ≡ Some found →
           contents_unmet c met p q
           ≡ option_map (inner_unmet q p) (unmet_in c p.nla.value q.nla.value)
-      go (NoList place) e = absurd cc
+      go (NoList place count) e = absurd cc
       go (ListOf l inside) e = refl
 
 -- what is told of two lists is told of the attributes that they are in

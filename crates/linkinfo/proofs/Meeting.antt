@@ -105,7 +105,7 @@ if_met name false h w = (λ e. absurd cc, λ m. absurd cc)
 -- an attribute, by what it contains
 pub payload_met : (c : Contents) (name : Family) (met : Bool) (h w : PlacedNla) →
     (payload_unmet c name met h w ≡ None) ↔ PayloadMeets c met h.nla w.nla
-payload_met (NoList place) name met h w = if_met name met h w
+payload_met (NoList place count) name met h w = if_met name met h w
 payload_met (ListOf l inside) name met h w =
     chosen_met l.is_whole _ _ (if_met name met h w)
     (mapped_met (inner_unmet w h) _
@@ -122,7 +122,7 @@ list_met l inside have want =
 -- data
 contents_met : (c : Contents) (met : Bool) (h w : PlacedNla) →
     (contents_unmet c met h w ≡ None) ↔ ContentsMeet c met h.nla w.nla
-contents_met (NoList place) met h w = if_met family.LinkInfo met h w
+contents_met (NoList place count) met h w = if_met family.LinkInfo met h w
 contents_met (ListOf l inside) met h w =
     mapped_met (inner_unmet w h) _ (list_met l inside h.nla.value w.nla.value)
 
@@ -234,7 +234,7 @@ attributes_itself l Meets each list =
     (meets_itself type_of Meets each list)
 
 payload_itself : (c : Contents) (met : Bool) (a : Attribute) → IsTrue met → PayloadMeets c met a a
-payload_itself (NoList place) met a e = e
+payload_itself (NoList place count) met a e = e
 payload_itself (ListOf l inside) met a e =
     chosen l.is_whole e
     (attributes_itself l
@@ -251,7 +251,7 @@ list_itself l inside s =
 -- what is met depends on the payloads alone
 by_value : (c : Contents) (met : Bool) (h w v : Attribute) → w.value ≡ v.value →
     PayloadMeets c met h w → PayloadMeets c met h v
-by_value (NoList place) met h w v e m = m
+by_value (NoList place count) met h w v e m = m
 by_value (ListOf l inside) met h w v e m =
     subst (λ (s : List ℕ).
     Chosen l.is_whole (IsTrue met)
@@ -265,7 +265,7 @@ payload_equal c met h w is e = by_value c met h h w e (payload_itself c met h is
 
 contents_equal : (c : Contents) (met : Bool) (h w : Attribute) → IsTrue met →
     h.value ≡ w.value → ContentsMeet c met h w
-contents_equal (NoList place) met h w is e = is
+contents_equal (NoList place count) met h w is e = is
 contents_equal (ListOf l inside) met h w is e =
     subst (ListMeets l inside h.value) e (list_itself l inside h.value)
 

@@ -12,7 +12,7 @@ use Rattle.nla_frame.specs.Payload.{stripped}
 use Rattle.nla_frame.specs.NlaItems.{nla_items}
 use Rattle.nla_frame.specs.declared.error.DecodeError.{DecodeError}
 use Rattle.linkinfo_table.specs.Last.{attributes_of, placed_from}
-use Rattle.linkinfo_table.specs.Lists.{◌>>=◌}
+use Rattle.linkinfo_table.specs.EachAttribute.{both_parts}
 use Rattle.linkinfo_table.specs.Rows.{alike_in, row_alike}
 use Rattle.linkinfo_data.specs.Data.{family_of}
 use Rattle.linkinfo_data.specs.DataFamilies.{DataFamilies, DataTypes}
@@ -100,7 +100,7 @@ alike_list l inside one_type each p q e =
 alike_contents : (c : Contents) (n : ℕ) (accepts : Attribute → Bool)
     (alike : Attribute → Attribute → Bool) (a b : Attribute) → IsContent c n accepts alike →
     type_of a ≡ n → alike a b ≡ true → PayloadMeets c (meets alike a b) a b
-alike_contents (NoList place) n accepts alike a b law at e =
+alike_contents (NoList place count) n accepts alike a b law at e =
     or_second (bytes_eq a.value b.value) (alike a b) e
 alike_contents (ListOf l inside) n accepts alike a b law at e =
     let pairs =
@@ -121,7 +121,7 @@ payload_alike payload canon law a b e = by_contents payload.contents law.contain
     by_contents : (c : Contents) →
         IsPayloadContent c (λ p. is_ok (payload.means p)) payload.alike →
         ContentsMeet c (meets (λ x y. payload.alike x.value y.value) a b) a b
-    by_contents (NoList place) law =
+    by_contents (NoList place count) law =
         or_second (bytes_eq a.value b.value) (payload.alike a.value b.value) e
     by_contents (ListOf l inside) law =
         alike_list l inside law.2
@@ -211,13 +211,6 @@ module _ {L : DataTypes} (layer : DataFamilies L) (law : AreLawful layer) where
   abbrev items_from : Named → ℕ → List (Result Attribute ℕ) → List Item
   items_from names n ps = items_under names (map (λ p. p.nla) (placed_from n ps))
 
-  both_ok : {X : Type 0} (m : Result X DecodeError) (v : Result (List X) DecodeError) →
-      IsOk (m >>= λ x. v >>= λ xs. let r : Result (List X) DecodeError = Ok (x ∷ xs) in r) →
-      IsOk m × IsOk v
-  both_ok (Ok x) (Ok xs) ok = (refl, refl)
-  both_ok (Ok x) (Err e) ok = absurd cc
-  both_ok (Err e) v ok = absurd cc
-
   alike_first : (t : CurrentKinds) (a b : Attribute) → link_alike layer t a b ≡ true →
       row_alike (link_row layer (role_of t (type_of a))) a b ≡ true
   unfolding alike_in
@@ -237,7 +230,7 @@ module _ {L : DataTypes} (layer : DataFamilies L) (law : AreLawful layer) where
       (alike_from layer (next_kinds t a) xs ys) e in
       let first = alike_first t a b h.0 in
       let oks =
-      both_ok (link_meaning layer t a) (values_from layer (next_kinds t a) xs) ok in
+      both_parts (link_meaning layer t a) (values_from layer (next_kinds t a) xs) ok in
       let next = names_after names a in
       let more =
       pairs_from xs ys next (m + aligned (4 + length a.value)) (n + aligned (4 + length b.value))

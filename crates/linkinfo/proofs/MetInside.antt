@@ -22,7 +22,7 @@ use Rattle.linkinfo.proofs.MetStays.{attributes_stay}
 -- data
 contents_stay : (c : Contents) (old new : Bool) (h m w : Attribute) →
     ContentsStay c w.value h.value m.value → ContentsMeet c old h w → ContentsMeet c new m w
-contents_stay (NoList place) old new h m w stay met = absurd stay
+contents_stay (NoList place count) old new h m w stay met = absurd stay
 contents_stay (ListOf l inside) old new h m w stay met =
     attributes_stay l (AttributeMeets inside l.alike) h.value m.value w.value stay met
 

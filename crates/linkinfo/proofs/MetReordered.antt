@@ -248,7 +248,7 @@ data_reordered l inside p q order =
 contents_reordered : (c : Contents) (met other : Bool) (a b : Attribute) →
     IsTrue (is_some (family_in c)) → IsReorderedData a.value b.value →
     ContentsMeet c met a b × ContentsMeet c other b a
-contents_reordered (NoList place) met other a b listed order = absurd cc
+contents_reordered (NoList place count) met other a b listed order = absurd cc
 contents_reordered (ListOf l inside) met other a b listed order =
     list_reordered l inside a.value b.value order
 

@@ -28,6 +28,7 @@ use Rattle.linkinfo_data.specs.declared.info_data.InfoDataOf.TheVariants as held
 use Rattle.linkinfo.specs.declared.link_info.LinkInfoOf.TheVariants as info
 use Rattle.linkinfo_data.specs.Data.{family_of}
 use Rattle.linkinfo_data.specs.DataFamilies.{DataFamilies, DataTypes, data_families, data_types}
+use Rattle.linkinfo_table.specs.EachAttribute.{list_accepts}
 use Rattle.linkinfo_table.specs.Layers.{Families, Types}
 use Rattle.linkinfo_data.specs.declared.data.DataFamily.{DataFamily}
 use Rattle.linkinfo_data.specs.declared.data.DataFamily.TheVariants as of
@@ -134,33 +135,10 @@ module _ {T : Types} (families : Families T) where
       Result (List (LinkOf L)) DecodeError
   both m v = m >>= λ x. v >>= λ xs. Ok (x ∷ xs)
 
-  first_of_both : (m : Result (LinkOf L) DecodeError)
-      (v : Result (List (LinkOf L)) DecodeError) → IsOk (both m v) → IsOk m
-  first_of_both (Ok x) v e = refl
-  first_of_both (Err d) v e = absurd cc
-
-  rest_of_both : (m : Result (LinkOf L) DecodeError)
-      (v : Result (List (LinkOf L)) DecodeError) → IsOk (both m v) → IsOk v
-  rest_of_both (Ok x) (Ok xs) e = refl
-  rest_of_both (Ok x) (Err d) e = absurd cc
-  rest_of_both (Err d) v e = absurd cc
-
-  both_ok : (m : Result (LinkOf L) DecodeError) (v : Result (List (LinkOf L)) DecodeError) →
-      IsOk m → IsOk v → IsOk (both m v)
-  both_ok (Ok x) (Ok xs) h k = refl
-  both_ok (Ok x) (Err d) h k = absurd cc
-  both_ok (Err d) v h k = absurd cc
-
   pub accepted_before : (t : CurrentKinds) (ps : List (Result Attribute ℕ)) →
       IsOk (values_from layer t ps) → IsOk (values_under (meaning_before layer) next_kinds t ps)
-  accepted_before t [] e = refl
-  accepted_before t ((Err n) ∷ more) e = absurd cc
-  accepted_before t ((Ok a) ∷ more) e =
-      both_ok (meaning_before layer t a)
-      (values_under (meaning_before layer) next_kinds (next_kinds t a) more)
-      (was t a (first_of_both (link_meaning layer t a) (values_from layer (next_kinds t a) more) e))
-      (accepted_before (next_kinds t a) more
-      (rest_of_both (link_meaning layer t a) (values_from layer (next_kinds t a) more) e))
+  accepted_before t ps e =
+      list_accepts (link_meaning layer) next_kinds (meaning_before layer) was t ps e
 
   -- without data under `pfcp` nothing else is parsed
   means_same : (t : CurrentKinds) (a : Attribute) → is_pfcp_data (role_at t a) ≡ false →

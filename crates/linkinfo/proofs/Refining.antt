@@ -7,33 +7,31 @@ use Rattle.std.specs.Prelude.{
   Bool,
   true,
   List,
-  [],
-  ◌∷◌,
+  None,
   Result,
   Ok,
   Err,
   IsOk,
   refl,
 }
-use Rattle.std.specs.List.{AllByRecursion}
-use Rattle.std.proofs.Common.{subst, sym, ap, ◌∙◌}
+use Rattle.std.proofs.Common.{subst, sym, ◌∙◌}
 use Rattle.std.proofs.lemmas.Bool.{and_from, and_parts}
 use Rattle.nla_frame.specs.Attribute.{Attribute, IsAttribute, IsBytes, masked}
-use Rattle.nla_frame.specs.NlaItems.{nla_items, nla_items_of}
+use Rattle.nla_frame.specs.NlaItems.{nla_items}
 use Rattle.nla_frame.specs.declared.error.DecodeError.{DecodeError}
 use Rattle.nla_frame.specs.declared.error.Family.TheVariants as family
 use Rattle.linkinfo_numbers.specs.Kind.{kind_of_name}
 use Rattle.linkinfo_numbers.specs.PortKind.{port_kind_of_name}
 use Rattle.linkinfo_shapes.specs.declared.shape.Shape.TheVariants.{Name, Raw}
 use Rattle.linkinfo_table.specs.Codecs.{PayloadError}
+use Rattle.linkinfo_table.specs.EachAttribute.{list_accepts, list_alike}
 use Rattle.linkinfo_table.specs.FamilyRows.{shape_codec}
 use Rattle.linkinfo_table.specs.Layers.{Families, IsLayer, Types}
-use Rattle.linkinfo_table.specs.ListLaws.{accepted}
-use Rattle.linkinfo_table.specs.Lists.{◌>>=◌}
 use Rattle.linkinfo_table.specs.Rows.{alike_in, labelled, row_alike}
 use Rattle.linkinfo_table.specs.SelfList.{inside}
 use Rattle.linkinfo_data.specs.Data.{data_refined, family_of}
 use Rattle.linkinfo_data.specs.DataFamilies.{DataFamilies, DataTypes, data_families, data_types}
+use Rattle.linkinfo_data.specs.NoSets.{HasNoSets}
 use Rattle.linkinfo_data.specs.Payloads.{Payload}
 use Rattle.linkinfo_data.specs.PeerFamilies.{peer_families}
 use Rattle.linkinfo_data.specs.PeerLayer.{peer_types}
@@ -41,13 +39,17 @@ use Rattle.linkinfo_data.specs.PortData.{port_family_of, port_refined}
 use Rattle.linkinfo_data.specs.Refined.{Refines}
 use Rattle.linkinfo.specs.Items.{link_alike, link_meaning, link_row}
 use Rattle.linkinfo.specs.Layered.{LinkOf}
+use Rattle.linkinfo.specs.Met.{ItemMeets, RoleMeets, items_of, role_of_item, type_of_item}
 use Rattle.linkinfo.specs.Roles.{role_at}
 use Rattle.linkinfo.specs.Strings.{alike_from, next_kinds, values_from}
+use Rattle.linkinfo.specs.Unmet.{strings_unmet}
 use Rattle.linkinfo.specs.declared.link_info.LinkInfoOf.TheVariants as info
 use Rattle.linkinfo.specs.declared.role.CurrentKinds.{CurrentKinds}
 use Rattle.linkinfo.specs.declared.role.Role.{Role}
 use Rattle.linkinfo.specs.declared.role.Role.TheVariants as role
 use Rattle.linkinfo.specs.declared.xstats.LinkXstats.TheVariants as xstats
+use Rattle.linkinfo.proofs.Meeting.{string_met}
+use Rattle.linkinfo.proofs.MetRefined.{data_meets, lasts_met}
 use Rattle.linkinfo.proofs.Steps.{meaning_is, meant}
 
 -- ---- a variant changes no acceptance
@@ -163,69 +165,44 @@ module _ {T : Types} (families : Families T) (lawful : IsLayer families) where
 
   -- ---- lists of attributes
 
-  abbrev both : {X : Type 0} → Result X DecodeError → Result (List X) DecodeError →
-      Result (List X) DecodeError
-  both m v = m >>= λ x. v >>= λ xs. Ok (x ∷ xs)
-
-  first_ok : {X : Type 0} (m : Result X DecodeError) (v : Result (List X) DecodeError) →
-      IsOk (both m v) → IsOk m
-  first_ok (Ok x) v e = refl
-  first_ok (Err d) v e = absurd cc
-
-  rest_ok : {X : Type 0} (m : Result X DecodeError) (v : Result (List X) DecodeError) →
-      IsOk (both m v) → IsOk v
-  rest_ok (Ok x) (Ok xs) e = refl
-  rest_ok (Ok x) (Err d) e = absurd cc
-  rest_ok (Err d) v e = absurd cc
-
-  both_ok : {X : Type 0} (m : Result X DecodeError) (v : Result (List X) DecodeError) → IsOk m →
-      IsOk v → IsOk (both m v)
-  both_ok (Ok x) (Ok xs) h k = refl
-  both_ok (Ok x) (Err d) h k = absurd cc
-  both_ok (Err d) v h k = absurd cc
-
   pub accepted_verbatim : (t : CurrentKinds) (ps : List (Result Attribute ℕ)) →
       IsOk (values_from fine t ps) → IsOk (values_from coarse t ps)
-  accepted_verbatim t [] h = refl
-  accepted_verbatim t ((Err n) ∷ more) h = absurd cc
-  accepted_verbatim t ((Ok a) ∷ more) h =
-      let rest = values_from fine (next_kinds t a) more in
-      both_ok (link_meaning coarse t a) (values_from coarse (next_kinds t a) more)
-      (link_accepts t a (first_ok (link_meaning fine t a) rest h))
-      (accepted_verbatim (next_kinds t a) more (rest_ok (link_meaning fine t a) rest h))
-
-  fronts_alike : (t : CurrentKinds) (front : List Attribute) (qs : List (Result Attribute ℕ)) →
-      AllByRecursion IsAttribute front → IsOk (values_from fine t (nla_items_of front [])) →
-      alike_from coarse t (nla_items_of front []) qs ≡ true →
-      alike_from fine t (nla_items_of front []) qs ≡ true
-  fronts_alike t [] [] i h e = refl
-  fronts_alike t [] (q ∷ qs) i h e = absurd cc
-  fronts_alike t (a ∷ more) [] i h e = absurd cc
-  fronts_alike t (a ∷ more) ((Err n) ∷ qs) i h e = absurd cc
-  fronts_alike t (a ∷ more) ((Ok b) ∷ qs) i h e =
-      let next = next_kinds t a in
-      let rest = values_from fine next (nla_items_of more []) in
-      let parts =
-      and_parts (link_alike coarse t a b) (alike_from coarse next (nla_items_of more []) qs) e in
-      and_from (link_alike fine t a b) (alike_from fine next (nla_items_of more []) qs)
-      (links_alike t a b i.0 (first_ok (link_meaning fine t a) rest h) parts.0)
-      (fronts_alike next more qs i.1 (rest_ok (link_meaning fine t a) rest h) parts.1)
+  accepted_verbatim t ps h =
+      list_accepts (link_meaning fine) next_kinds (link_meaning coarse) link_accepts t ps h
 
   pub alike_verbatim : (t : CurrentKinds) (s u : List ℕ) → IsBytes s →
       IsOk (values_from fine t (nla_items s)) →
       alike_from coarse t (nla_items s) (nla_items u) ≡ true →
       alike_from fine t (nla_items s) (nla_items u) ≡ true
-  alike_verbatim t s u b h e = go (values_from fine t (nla_items s)) refl h
-    where
-      go : (r : Result (List (LinkOf L)) DecodeError) → values_from fine t (nla_items s) ≡ r →
-          IsOk r → alike_from fine t (nla_items s) (nla_items u) ≡ true
-      go (Err d) is i = absurd cc
-      go (Ok xs) is i =
-          let whole = accepted (link_meaning fine) next_kinds t s xs b is in
-          let items = whole.nla_items_are in
-          ap (λ (ps : List (Result Attribute ℕ)). alike_from fine t ps (nla_items u)) items
-          ∙ fronts_alike t whole.front (nla_items u) whole.attributes
-          (subst (λ (r : Result (List (LinkOf L)) DecodeError). IsOk r) (sym whole.values_are) i)
-          (ap (λ (ps : List (Result Attribute ℕ)). alike_from coarse t ps (nla_items u))
-          (sym items)
-          ∙ e)
+  alike_verbatim t s u b h e =
+      list_alike (link_meaning fine) next_kinds (link_alike fine) (link_alike coarse) links_alike t
+      s u b h e
+
+  -- ---- what is met
+
+  role_meets : HasNoSets fine → (r : Role) (h w : Attribute) → RoleMeets coarse r h w →
+      RoleMeets fine r h w
+  role_meets none (role.Data t) h w m =
+      let f = family_of t in
+      data_meets (fine.data_of f) (coarse.data_of f) (data_refined families lawful f).contains
+      (none.of_data f) h w m
+  role_meets none (role.PortData t) h w m =
+      let f = port_family_of t in
+      data_meets (fine.port_data_of f) (coarse.port_data_of f)
+      (port_refined families lawful f).contains (none.of_ports f) h w m
+  role_meets none role.Kind h w m = m
+  role_meets none role.PortKind h w m = m
+  role_meets none role.Xstats h w m = m
+  role_meets none role.Misplaced h w m = m
+  role_meets none role.Unknown h w m = m
+
+  pub met_verbatim : HasNoSets fine → (have want : List ℕ) →
+      strings_unmet coarse have want ≡ None → strings_unmet fine have want ≡ None
+  met_verbatim none have want e =
+      (string_met fine have want).1
+      (lasts_met type_of_item (ItemMeets coarse) (ItemMeets fine)
+      (λ h w m. record {
+        kind = m.kind;
+        payload = role_meets none (role_of_item w) h.nla w.nla m.payload;
+      })
+      (items_of have) (items_of want) ((string_met coarse have want).0 e))

@@ -153,6 +153,10 @@ module _ {L : DataTypes} (layer : DataFamilies L) (law : AreLawful layer) where
   reading_no_memory s =
       no_memory (link_meaning layer) next_kinds (link_no_memory layer law) no_kinds (nla_items s)
 
+  pub rejected_no_memory : (s : List ℕ) (e : DecodeError) → reading layer s ≡ Err e →
+      e ≢ memory_error
+  rejected_no_memory s e is h = reading_no_memory s (is ∙ ap (λ (d : DecodeError). Err d) h)
+
   pub checked_no_memory : (s : List ℕ) (r : Result (Unit {0}) DecodeError) →
       r ≡ verdict (reading layer s) → r ≢ Err memory_error
   checked_no_memory s r e h = go (reading layer s) (reading_no_memory s) (sym e ∙ h)

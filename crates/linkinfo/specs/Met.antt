@@ -91,7 +91,7 @@ AttributesMeet l Meets have want =
 -- an attribute meets another one of its type: its list does, if it contains one, and else it does
 -- as a whole
 abbrev pub PayloadMeets : Contents → Bool → Attribute → Attribute → Type 0
-PayloadMeets (NoList place) met have want = IsTrue met
+PayloadMeets (NoList place count) met have want = IsTrue met
 PayloadMeets (ListOf l inside) met have want =
     Chosen l.is_whole (IsTrue met)
     (AttributesMeet l (λ h w. PayloadMeets (inside (type_of w)) (meets l.alike h w) h w)
@@ -110,7 +110,7 @@ ListMeets l inside have want =
 
 -- data: attribute by attribute where it is a list, and else as a whole
 abbrev pub ContentsMeet : Contents → Bool → Attribute → Attribute → Type 0
-ContentsMeet (NoList place) met have want = IsTrue met
+ContentsMeet (NoList place count) met have want = IsTrue met
 ContentsMeet (ListOf l inside) met have want = ListMeets l inside have.value want.value
 
 abbrev pub DataMeets : {X : Type 0} → Payload X → Attribute → Attribute → Type 0
@@ -157,7 +157,7 @@ AttributesStay l want have more =
 
 -- .. of data that is a list
 abbrev pub ContentsStay : Contents → List ℕ → List ℕ → List ℕ → Type 0
-ContentsStay (NoList place) want have more = ⊥
+ContentsStay (NoList place count) want have more = ⊥
 ContentsStay (ListOf l inside) want have more = AttributesStay l want have more
 
 -- a list has an attribute of a type

@@ -109,7 +109,7 @@ whole_item_unmet alike have want =
 
 -- .. or an attribute in the payload, where it is a list
 abbrev pub contents_unmet : Contents → Bool → PlacedNla → PlacedNla → Option Unmet
-contents_unmet (NoList place) met have want = item_unmet family.LinkInfo met have want
+contents_unmet (NoList place count) met have want = item_unmet family.LinkInfo met have want
 contents_unmet (ListOf l inside) met have want =
     option_map (inner_unmet want have) (list_unmet l inside have.nla.value want.nla.value)
 

@@ -57,6 +57,7 @@ ghost use Rattle.linkinfo_data.specs.TypedLayer.{typed_layer};
 ghost use Rattle.linkinfo_data.specs.Conditions.{conditions_of, opaque_families, own_conditions};
 ghost use Rattle.linkinfo_data.specs.DataFamilies.{data_families};
 ghost use Rattle.linkinfo_data.specs.Layered.{DataOf, PortDataOf};
+ghost use Rattle.linkinfo_data.specs.NoSets.{HasNoSets};
 ghost use Rattle.linkinfo_data.specs.PeerFamilies.{peer_families};
 ghost use Rattle.linkinfo_data.specs.PeerLayer.{peer_types};
 ghost use Rattle.linkinfo.specs.Xstats.{xstats_bytes};
@@ -78,6 +79,7 @@ ghost use Rattle.linkinfo.specs.Strings.{
   last_port,
   reading,
 };
+ghost use Rattle.linkinfo.specs.Unmet.{strings_unmet};
 ghost use Rattle.linkinfo.specs.Walks.{LinkWalk, Moves, TagsByPlace, given, held, link_walk};
 ghost use Rattle.linkinfo.specs.declared.role.CurrentKinds.{CurrentKinds};
 ghost use Rattle.linkinfo.specs.declared.role.Role.TheVariants as role;
@@ -150,7 +152,8 @@ pub fn equal_items()
 /// of the peer's own, whose families keep each attribute verbatim.
 ///
 /// A byte string that the first layer accepts the second accepts. It is equivalent under the first
-/// layer to each byte string to which it is equivalent under the second.
+/// layer to each byte string to which it is equivalent under the second. Where no data of the first
+/// layer is a set, it meets each request under it that it meets under the second.
 pub fn refined<L: LinkLayer>(bytes: &[u8])
 where
     L::Bond: Supplied,
@@ -169,6 +172,10 @@ where
         IsOk (reading (data_families families) bytes.now) → (other : List ℕ) →
         alike_strings (data_families (peer_families families.peer)) bytes.now other ≡ true →
         alike_strings (data_families families) bytes.now other ≡ true }
+    ensures met { let families = ⟦<L as LayerFamilies>⟧.families in
+        HasNoSets (data_families families) → (want : List ℕ) →
+        strings_unmet (data_families (peer_families families.peer)) bytes.now want ≡ None →
+        strings_unmet (data_families families) bytes.now want ≡ None }
 {
     lawful::<L>();
 }
@@ -176,13 +183,16 @@ where
 /// What the calls of `typed` have in common with those of the root, as `refined` says of layers.
 ///
 /// A byte string that `typed::check` accepts `check` accepts. It is equivalent by `typed::same` to
-/// each byte string to which it is equivalent by `same`.
+/// each byte string to which it is equivalent by `same`, and meets each request by
+/// `typed::first_unmet` that it meets by `first_unmet`.
 pub fn typed_refined(bytes: &[u8])
     ensures accepted { IsOk (reading typed_layer bytes.now) →
         IsOk (reading bytes_layer bytes.now) }
     ensures alike { IsOk (reading typed_layer bytes.now) → (other : List ℕ) →
         alike_strings bytes_layer bytes.now other ≡ true →
         alike_strings typed_layer bytes.now other ≡ true }
+    ensures met { (want : List ℕ) → strings_unmet bytes_layer bytes.now want ≡ None →
+        strings_unmet typed_layer bytes.now want ≡ None }
 {
     refined::<Typed<Bytes>>(bytes);
 }

@@ -1,6 +1,7 @@
 //! The first error of a list, with its offsets.
 
-ghost use Rattle.std.specs.Prelude.{◌≡◌, ◌+◌, ◌≤◌, Err, IfErr, IsOk, MatchResult, length};
+ghost use Rattle.std.specs.Prelude.{◌≡◌, ◌≢◌, ◌+◌, ◌≤◌, Err, IfErr, IsOk, MatchResult, length};
+ghost use Rattle.nla_frame.specs.Error.{memory_error};
 ghost use Rattle.linkinfo_data.specs.BytesLayer.{bytes_layer};
 ghost use Rattle.linkinfo.specs.Comparing.{either_error};
 ghost use Rattle.linkinfo.specs.Placed.{IsErrorAt, IsRejectedAt, error_in, error_in_payload};
@@ -9,6 +10,7 @@ ghost use Rattle.linkinfo.specs.Strings.{reading};
 use crate::item::check_item;
 use crate::role::Role;
 use crate::walk::LinkInfoWalk;
+use linkinfo_data::laws::families_lawful;
 use linkinfo_data::{
     DataFamily, DataLayer, PayloadFamily, PortFamily, family_of, list_error, port_family_of,
 };
@@ -133,10 +135,12 @@ fn error_in<P: DataLayer>(nla: &NlaBuffer<'_>, role: Role) -> usize
 pub fn check_at_of<P: DataLayer>(bytes: &[u8]) -> Result<(), ErrorAt>
     ensures answer { MatchResult result (λ _. IsOk (reading P.families bytes.now))
         (λ at. reading P.families bytes.now ≡ Err at.error) }
+    ensures no_memory { IfErr result (λ at. at.error ≢ memory_error) }
     ensures place { IfErr result (λ at. IsRejectedAt P.families bytes.now at.error at.place) }
     ensures inner { IfErr result
         (λ at. IsErrorAt P.families bytes.now at.error at.place at.inner) }
 {
+    families_lawful::<P>();
     let mut walk = LinkInfoWalk::new(bytes);
     let mut count = HeaderCount::new();
     let mut place = 0;
@@ -177,6 +181,7 @@ pub fn check_at_of<P: DataLayer>(bytes: &[u8]) -> Result<(), ErrorAt>
 pub fn check_at(bytes: &[u8]) -> Result<(), ErrorAt>
     ensures answer { MatchResult result (λ _. IsOk (reading bytes_layer bytes.now))
         (λ at. reading bytes_layer bytes.now ≡ Err at.error) }
+    ensures no_memory { IfErr result (λ at. at.error ≢ memory_error) }
     ensures place { IfErr result (λ at. IsRejectedAt bytes_layer bytes.now at.error at.place) }
     ensures inner { IfErr result
         (λ at. IsErrorAt bytes_layer bytes.now at.error at.place at.inner) }

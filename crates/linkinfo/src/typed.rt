@@ -1,5 +1,6 @@
-//! Lists over the typed layer, by the names of the crate's root: the attributes of `dsa`, `hsr`,
-//! `tun` and `vlan` links have types here, and so have the priority maps in those of `vlan` links.
+//! Lists over the typed layer, by the names of the crate's root: the attributes of `bond`,
+//! `bridge`, `can`, `dsa`, `hsr`, `tun` and `vlan` links, and of ports of bonds and bridges, have
+//! types here, and so have those of the lists inside them.
 //!
 //! ```text
 //! use linkinfo::typed::{self, InfoData, InfoVlan, LinkInfo, VecLinkInfo};
@@ -51,7 +52,13 @@ use crate::placed::{ErrorAt, ErrorIn, check_at_of};
 use crate::unmet::first_unmet_of;
 pub use linkinfo_data::Typed;
 use linkinfo_data::{Difference, InfoDataOf, InfoPortDataOf, Unmet};
-pub use linkinfo_typed::{InfoDsa, InfoHsr, InfoTun, InfoVlan, VlanQosMapping};
+pub use linkinfo_payloads::{
+    Addresses, BridgeId, CanBerrCounter, CanBitTiming, CanBitTimingConst, Numbers,
+};
+pub use linkinfo_typed::{
+    BondAdInfo, BridgeQuerierState, CanCtrlModeExt, CanPwm, CanTdc, InfoBond, InfoBondPort,
+    InfoBridge, InfoBridgePort, InfoCan, InfoDsa, InfoHsr, InfoTun, InfoVlan, VlanQosMapping,
+};
 use nla_frame::{Bytes, DecodeError};
 use std::alloc::Global;
 
@@ -82,6 +89,7 @@ pub fn check(bytes: &[u8]) -> Result<(), DecodeError>
 pub fn check_at(bytes: &[u8]) -> Result<(), ErrorAt>
     ensures answer { MatchResult result (λ _. IsOk (reading typed_layer bytes.now))
         (λ at. reading typed_layer bytes.now ≡ Err at.error) }
+    ensures no_memory { IfErr result (λ at. at.error ≢ memory_error) }
     ensures place { IfErr result (λ at. IsRejectedAt typed_layer bytes.now at.error at.place) }
     ensures inner { IfErr result
         (λ at. IsErrorAt typed_layer bytes.now at.error at.place at.inner) }

@@ -72,6 +72,11 @@ family_code family.Wireguard = 35
 family_code family.Wwan = 36
 family_code family.Xfrm = 37
 family_code family.VlanQosMapping = 38
+family_code family.BondAdInfo = 39
+family_code family.BridgeQuerierState = 40
+family_code family.CanTdc = 41
+family_code family.CanCtrlModeExt = 42
+family_code family.CanPwm = 43
 
 -- End: written by tables/generate.
 
@@ -116,6 +121,11 @@ peer =
     family.Wwan ∷
     family.Xfrm ∷
     family.VlanQosMapping ∷
+    family.BondAdInfo ∷
+    family.BridgeQuerierState ∷
+    family.CanTdc ∷
+    family.CanCtrlModeExt ∷
+    family.CanPwm ∷
     -- End: written by tables/generate.
     []
 

@@ -122,12 +122,12 @@ pub extern "C" fn linkinfo_port_kind_of_name(name: &[u8]) -> u16
 }
 
 /// Writes family, type in decimal and cause of an error, as `linkinfo 2 order`, and returns the
-/// length of this text: at most 32 bytes. The text is empty without an error, and if a number is no
+/// length of this text: at most 36 bytes. The text is empty without an error, and if a number is no
 /// family or no cause.
 #[unsafe(no_mangle)]
 pub extern "C" fn linkinfo_error_text(error: LinkinfoError, buffer: &mut [u8]) -> usize
     ensures length { result ≡ length (record_text error) }
-    ensures most { result ≤ 32 }
+    ensures most { result ≤ 36 }
     ensures text { buffer.new ≡ with_text (record_text error) buffer.old }
 {
     match (family_of_code(error.family), cause_of_code(error.cause)) {
@@ -143,8 +143,8 @@ pub extern "C" fn linkinfo_error_text(error: LinkinfoError, buffer: &mut [u8]) -
     }
 }
 
-/// The text of an error: at most 14, 5 and 11 bytes, with a space between them.
-fn error_line(error: DecodeError) -> ArrayString<32>
+/// The text of an error: at most 18, 5 and 11 bytes, with a space between them.
+fn error_line(error: DecodeError) -> ArrayString<36>
     ensures { result.bytes ≡ error_text error }
 {
     let mut text = ArrayString::new();
@@ -158,12 +158,12 @@ fn error_line(error: DecodeError) -> ArrayString<32>
 }
 
 /// Writes the kernel's name of an attribute's type, as `IFLA_VXLAN_ID`, and returns its length: at
-/// most 31 bytes. The type is without its two flag bits. The name is empty for a type that has no
+/// most 47 bytes. The type is without its two flag bits. The name is empty for a type that has no
 /// row in the family, and for a number that is no family.
 #[unsafe(no_mangle)]
 pub extern "C" fn linkinfo_attribute_name(family: u16, kind: u16, buffer: &mut [u8]) -> usize
     ensures length { result ≡ length (attribute_text family kind) }
-    ensures most { result ≤ 31 }
+    ensures most { result ≤ 47 }
     ensures text { buffer.new ≡ with_text (attribute_text family kind) buffer.old }
 {
     match family_of_code(family) {
@@ -176,7 +176,7 @@ pub extern "C" fn linkinfo_attribute_name(family: u16, kind: u16, buffer: &mut [
 }
 
 /// Writes an error as a sentence for people, as `IFLA_INFO_DATA before IFLA_INFO_KIND, at offset
-/// 0`, and returns the length of this text: at most 104 bytes. The text is empty without an error,
+/// 0`, and returns the length of this text: at most 120 bytes. The text is empty without an error,
 /// and if a number is no family or no cause.
 #[unsafe(no_mangle)]
 pub extern "C" fn linkinfo_error_message(
@@ -185,7 +185,7 @@ pub extern "C" fn linkinfo_error_message(
     buffer: &mut [u8],
 ) -> usize
     ensures length { result ≡ length (message_text error offset) }
-    ensures most { result ≤ 104 }
+    ensures most { result ≤ 120 }
     ensures text { buffer.new ≡ with_text (message_text error offset) buffer.old }
 {
     match (family_of_code(error.family), cause_of_code(error.cause)) {
@@ -201,8 +201,8 @@ pub extern "C" fn linkinfo_error_message(
     }
 }
 
-/// The sentence of an error: at most 31, 1, 40, 12 and 20 bytes.
-fn sentence(error: DecodeError, offset: usize) -> ArrayString<104>
+/// The sentence of an error: at most 47, 1, 40, 12 and 20 bytes.
+fn sentence(error: DecodeError, offset: usize) -> ArrayString<120>
     ensures { result.bytes ≡ explanation error offset }
 {
     let mut text = ArrayString::new();
@@ -227,9 +227,9 @@ fn sentence(error: DecodeError, offset: usize) -> ArrayString<104>
     text
 }
 
-/// Writes after a text at which offset the error is. Requires that the text has at most 72 bytes.
-fn push_offset(text: &mut ArrayString<104>, offset: usize)
-    requires { length text.old.bytes ≤ 72 }
+/// Writes after a text at which offset the error is. Requires that the text has at most 88 bytes.
+fn push_offset(text: &mut ArrayString<120>, offset: usize)
+    requires { length text.old.bytes ≤ 88 }
     ensures { text.new.bytes ≡ text.old.bytes ++ place_text offset }
 {
     let mut decimal = itoa::Buffer::new();
@@ -237,9 +237,9 @@ fn push_offset(text: &mut ArrayString<104>, offset: usize)
     text.push_str(decimal.format(offset));
 }
 
-/// The attribute of an error: the kernel's name of its type, of at most 31 bytes, or the type and
+/// The attribute of an error: the kernel's name of its type, of at most 47 bytes, or the type and
 /// the family.
-fn subject(error: DecodeError) -> ArrayString<31>
+fn subject(error: DecodeError) -> ArrayString<47>
     ensures { result.bytes ≡ subject error }
 {
     let mut text = ArrayString::new();

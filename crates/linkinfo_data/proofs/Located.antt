@@ -22,7 +22,7 @@ use Rattle.linkinfo_data.specs.Payloads.{IsLawful, Payload}
 list_errs : (c : Contents) (accepts : List ℕ → Bool) (alike : List ℕ → List ℕ → Bool) →
     IsPayloadContent c accepts alike → IsSome (family_in c) → (s : List ℕ) →
     is_none (error_in c s) ≡ accepts s
-list_errs (NoList place) accepts alike law is s = absurd cc
+list_errs (NoList place count) accepts alike law is s = absurd cc
 list_errs (ListOf l inside) accepts alike law is s =
     sym (mapped_none (λ k. 4 + k) (error_in (ListOf l inside) s))
     ∙ errors_none (ListOf l inside) accepts alike law s
@@ -31,7 +31,7 @@ list_errs (ListOf l inside) accepts alike law is s =
 list_differs : (c : Contents) (accepts : List ℕ → Bool) (alike : List ℕ → List ℕ → Bool) →
     IsPayloadContent c accepts alike → IsSome (family_in c) → (s t : List ℕ) →
     accepts s ≡ true → accepts t ≡ true → is_none (difference_in c s t) ≡ alike s t
-list_differs (NoList place) accepts alike law is s t h g = absurd cc
+list_differs (NoList place count) accepts alike law is s t h g = absurd cc
 list_differs (ListOf l inside) accepts alike law is s t h g =
     sym (mapped_none (inner_difference (placed s) (placed t)) (difference_in (ListOf l inside) s t))
     ∙ payloads_none (ListOf l inside) accepts alike law l.family (placed s) (placed t) h g

@@ -32,18 +32,19 @@ peer_is_layer own is = record {
 }
 
 pub typed_is_layer : {P : Type 0} (own : Ghosts P) →
-    IsPeer own.meaning own.alike own.canonical own.well → IsSupplied ghosts.dsa →
-    IsSupplied ghosts.hsr → IsSupplied ghosts.tun → IsSupplied ghosts.vlan →
-    IsLayer (typed_families own)
-typed_is_layer own is dsa hsr tun vlan = record {
+    IsPeer own.meaning own.alike own.canonical own.well → IsSupplied ghosts.bond →
+    IsSupplied ghosts.bond_port → IsSupplied ghosts.bridge → IsSupplied ghosts.bridge_port →
+    IsSupplied ghosts.can → IsSupplied ghosts.dsa → IsSupplied ghosts.hsr →
+    IsSupplied ghosts.tun → IsSupplied ghosts.vlan → IsLayer (typed_families own)
+typed_is_layer own is bond bond_port bridge bridge_port can dsa hsr tun vlan = record {
   peer = is;
-  bond = opaque_supplied 1 family.Bond;
-  bridge = opaque_supplied 3 family.Bridge;
+  bond = bond;
+  bridge = bridge;
   vlan = vlan;
-  can = opaque_supplied 5 family.Can;
+  can = can;
   hsr = hsr;
   dsa = dsa;
   tun = tun;
-  bond_port = opaque_supplied 2 family.BondPort;
-  bridge_port = opaque_supplied 4 family.BridgePort;
+  bond_port = bond_port;
+  bridge_port = bridge_port;
 }

@@ -16,6 +16,7 @@ pub mod Lists
 pub mod Located
 pub mod LowerData
 pub mod Names
+pub mod NoSets
 pub mod Payloads
 pub mod PeerData
 pub mod PeerFamilies

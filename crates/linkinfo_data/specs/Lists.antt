@@ -9,20 +9,20 @@ use Rattle.linkinfo_table.specs.declared.unmet.Unmet.{Unmet}
 
 -- the family of the attributes in payloads with these contents, if they are lists
 abbrev pub family_in : Contents → Option Family
-family_in (NoList place) = None
+family_in (NoList place count) = None
 family_in (ListOf l inside) = Some l.family
 
 -- the offset of the error of a payload that is a list, from its beginning
 abbrev pub error_in : Contents → List ℕ → Option ℕ
-error_in (NoList place) p = None
+error_in (NoList place count) p = None
 error_in (ListOf l inside) p = list_error l inside p
 
 -- the first difference of two payloads that are lists
 abbrev pub difference_in : Contents → List ℕ → List ℕ → Option Difference
-difference_in (NoList place) p q = None
+difference_in (NoList place count) p q = None
 difference_in (ListOf l inside) p q = list_difference l inside p q
 
 -- the first attribute of a payload that is a list that another one does not meet
 abbrev pub unmet_in : Contents → List ℕ → List ℕ → Option Unmet
-unmet_in (NoList place) have want = None
+unmet_in (NoList place count) have want = None
 unmet_in (ListOf l inside) have want = list_unmet l inside have want

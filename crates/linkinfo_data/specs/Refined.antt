@@ -2,14 +2,14 @@
 -- keep each attribute verbatim.
 use Rattle.std.specs.Prelude.{
   ◌≡◌,
+  ◌⊎◌,
   ◌==◌,
   ◌&&◌,
   ℕ,
   Bool,
   true,
+  false,
   List,
-  [],
-  ◌∷◌,
   Result,
   Ok,
   Err,
@@ -17,19 +17,37 @@ use Rattle.std.specs.Prelude.{
   refl,
 }
 use Rattle.std.specs.Str.{bytes_eq}
-use Rattle.std.proofs.Common.{ap, subst, sym, ◌∙◌}
+use Rattle.std.proofs.Common.{inl, inr, subst, sym}
 use Rattle.std.proofs.lemmas.Bool.{and_parts, eqb-true}
 use Rattle.std.proofs.lemmas.Slice.Eq.{bytes_eq-Decides}
-use Rattle.nla_frame.specs.Attribute.{Attribute, IsBytes}
+use Rattle.nla_frame.specs.Attribute.{Attribute, IsAttribute, IsBytes}
 use Rattle.nla_frame.specs.NlaItems.{nla_items}
 use Rattle.nla_frame.specs.declared.error.DecodeError.{DecodeError}
 use Rattle.nla_frame.specs.declared.error.Family.{Family}
-use Rattle.linkinfo_table.specs.Lists.{◌>>=◌, alike_pairs, first_meaning, values}
-use Rattle.linkinfo_table.specs.Members.{IsFamily, Members, list_of_is_codec}
+use Rattle.linkinfo_table.specs.Contents.{Contents, ListOf, Listed, NoList, listed, single_value}
+use Rattle.linkinfo_table.specs.EachAttribute.{list_accepts, list_alike}
+use Rattle.linkinfo_table.specs.Lists.{◌>>=◌, first_meaning, values}
+use Rattle.linkinfo_table.specs.Members.{IsFamily, Members}
 use Rattle.linkinfo_table.specs.Rows.{alike_in, meaning_in}
-use Rattle.linkinfo_table.specs.SelfList.{inside}
 use Rattle.linkinfo_data.specs.FamiliesLawful.{opaque_members}
 use Rattle.linkinfo_data.specs.Payloads.{Payload, as_bytes, as_first, as_list}
+
+-- payloads with the same contents, which are equivalent to the same payloads
+pub record AreEqual {X Y : Type 0} (fine : Payload X) (coarse : Payload Y) : Type 0 where
+  pub contents : fine.contents ≡ coarse.contents
+  pub alike : (p q : List ℕ) → fine.alike p q ≡ coarse.alike p q
+
+-- lists of attributes, beside lists of single values, each of which is equivalent to itself alone
+pub record AreLists {X Y : Type 0} (fine : Payload X) (coarse : Payload Y) : Type 0 where
+  pub here : Listed
+  pub inside : ℕ → Contents
+  pub is_here : fine.contents ≡ ListOf here inside
+  pub there : Listed
+  pub within : ℕ → Contents
+  pub is_there : coarse.contents ≡ ListOf there within
+  pub single : (n : ℕ) → within n ≡ single_value
+  pub same : (a b : Attribute) → there.alike a b ≡ true → a ≡ b
+  pub in_order : there.is_set ≡ false
 
 -- Each payload that `fine` accepts is accepted by `coarse`. One that `fine` accepts is equivalent
 -- to each payload that is equivalent to it in `coarse`.
@@ -37,6 +55,12 @@ pub record Refines {X Y : Type 0} (fine : Payload X) (coarse : Payload Y) : Type
   pub accepts : (p : List ℕ) → IsOk (fine.means p) → IsOk (coarse.means p)
   pub alike : (p q : List ℕ) → IsBytes p → IsOk (fine.means p) → coarse.alike p q ≡ true →
       fine.alike p q ≡ true
+  pub contains : AreEqual fine coarse ⊎ AreLists fine coarse
+
+-- whether what payloads contain is a set
+abbrev pub is_set_in : Contents → Bool
+is_set_in (NoList place count) = false
+is_set_in (ListOf l inside) = l.is_set
 
 -- ---- one family under two variants
 
@@ -57,6 +81,7 @@ list_again f x y = record {
       ok_labelled (values f.meaning (nla_items p)) y
       (ok_under (values f.meaning (nla_items p)) x h);
   alike = λ p q b h e. e;
+  contains = inl (record { contents = refl; alike = λ p q. refl });
 }
 
 pub first_again : {A X Y : Type 0} (f : Members A) (x : A → X) (y : A → Y) →
@@ -66,6 +91,7 @@ first_again f x y = record {
       ok_labelled (first_meaning f.meaning (nla_items p)) y
       (ok_under (first_meaning f.meaning (nla_items p)) x h);
   alike = λ p q b h e. e;
+  contains = inl (record { contents = refl; alike = λ p q. refl });
 }
 
 pub bytes_again : {X Y : Type 0} (x : List ℕ → X) (y : List ℕ → Y) →
@@ -73,30 +99,17 @@ pub bytes_again : {X Y : Type 0} (x : List ℕ → X) (y : List ℕ → Y) →
 bytes_again x y = record {
   accepts = λ p h. refl;
   alike = λ p q b h e. e;
+  contains = inl (record { contents = refl; alike = λ p q. refl });
 }
 
 -- ---- a family that a layer supplies, beside one that keeps each attribute
-
-abbrev both : {X : Type 0} → Result X DecodeError → Result (List X) DecodeError →
-    Result (List X) DecodeError
-both m v = m >>= λ x. v >>= λ xs. Ok (x ∷ xs)
-
-rest_ok : {X : Type 0} (m : Result X DecodeError) (v : Result (List X) DecodeError) →
-    IsOk (both m v) → IsOk v
-rest_ok (Ok x) (Ok xs) e = refl
-rest_ok (Ok x) (Err d) e = absurd cc
-rest_ok (Err d) v e = absurd cc
-
-both_ok : {X : Type 0} (m : Result X DecodeError) (v : Result (List X) DecodeError) → IsOk m →
-    IsOk v → IsOk (both m v)
-both_ok (Ok x) (Ok xs) h k = refl
-both_ok (Ok x) (Err d) h k = absurd cc
-both_ok (Err d) v h k = absurd cc
 
 -- a family that keeps each attribute, and compares all of it
 pub record IsVerbatim {X : Type 0} (m : Members X) : Type 0 where
   pub keeps : (a : Attribute) → IsOk (m.meaning a)
   pub same : (a b : Attribute) → m.alike a b ≡ true → a ≡ b
+  pub single : (n : ℕ) → m.contents n ≡ single_value
+  pub in_order : m.is_set ≡ false
 
 same_attribute : (a b : Attribute) → a.kind ≡ b.kind → a.value ≡ b.value → a ≡ b
 same_attribute a b kinds values i = record { kind = kinds i; value = values i }
@@ -109,51 +122,45 @@ opaque_verbatim number f = record {
       let parts = and_parts (b.kind == a.kind) (bytes_eq a.value b.value) e in
       same_attribute a b (sym (eqb-true b.kind a.kind parts.0))
       ((bytes_eq-Decides a.value b.value).0 parts.1);
+  single = λ n. refl;
+  in_order = refl;
 }
 
 module _ {A B : Type 0} (fine : Members A) (coarse : Members B) (verbatim : IsVerbatim coarse) where
-  kept : (ps : List (Result Attribute ℕ)) → IsOk (values fine.meaning ps) →
-      IsOk (values coarse.meaning ps)
-  kept [] h = refl
-  kept ((Err n) ∷ more) h = absurd cc
-  kept ((Ok a) ∷ more) h =
-      both_ok (coarse.meaning a) (values coarse.meaning more) (verbatim.keeps a)
-      (kept more (rest_ok (fine.meaning a) (values fine.meaning more) h))
-
-  items_same : (ps qs : List (Result Attribute ℕ)) → alike_pairs coarse.alike ps qs ≡ true →
-      ps ≡ qs
-  items_same [] [] e = refl
-  items_same [] (q ∷ qs) e = absurd cc
-  items_same ((Ok a) ∷ ps) [] e = absurd cc
-  items_same ((Err n) ∷ ps) [] e = absurd cc
-  items_same ((Ok a) ∷ ps) ((Ok b) ∷ qs) e =
-      let parts = and_parts (coarse.alike a b) (alike_pairs coarse.alike ps qs) e in
-      ap (λ (x : Attribute). let r : Result Attribute ℕ = Ok x in r ∷ ps)
-      (verbatim.same a b parts.0)
-      ∙ ap (λ (rs : List (Result Attribute ℕ)). Ok b ∷ rs) (items_same ps qs parts.1)
-  items_same ((Ok a) ∷ ps) ((Err n) ∷ qs) e = absurd cc
-  items_same ((Err n) ∷ ps) (q ∷ qs) e = absurd cc
-
-  itself : IsFamily fine → (p : List ℕ) → IsBytes p → IsOk (values fine.meaning (nla_items p)) →
-      alike_pairs fine.alike (nla_items p) (nla_items p) ≡ true
-  itself law p b h = go (values fine.meaning (nla_items p)) refl h
+  itself : IsFamily fine → (a : Attribute) → IsAttribute a → IsOk (fine.meaning a) →
+      fine.alike a a ≡ true
+  itself law a i h = go (fine.meaning a) refl h
     where
-      go : (r : Result (List A) DecodeError) → values fine.meaning (nla_items p) ≡ r → IsOk r →
-          alike_pairs fine.alike (nla_items p) (nla_items p) ≡ true
-      go (Ok xs) e i =
-          let read = ap inside e in
-          ((list_of_is_codec fine law).alike_is p p xs xs b b read read).1 refl
-      go (Err d) e i = absurd cc
+      go : (r : Result A DecodeError) → fine.meaning a ≡ r → IsOk r → fine.alike a a ≡ true
+      go (Ok x) e k = (law.alike_is a a x x i i e e).1 refl
+      go (Err d) e k = absurd cc
+
+  each_alike : IsFamily fine → (a b : Attribute) → IsAttribute a → IsOk (fine.meaning a) →
+      coarse.alike a b ≡ true → fine.alike a b ≡ true
+  each_alike law a b i h e =
+      subst (λ (x : Attribute). fine.alike a x ≡ true) (verbatim.same a b e) (itself law a i h)
 
   pub list_refined : {X Y : Type 0} → IsFamily fine → (x : List A → X) (y : List B → Y) →
       Refines (as_list fine x) (as_list coarse y)
   list_refined law x y = record {
     accepts = λ p h.
         ok_labelled (values coarse.meaning (nla_items p)) y
-        (kept (nla_items p) (ok_under (values fine.meaning (nla_items p)) x h));
+        (list_accepts (λ _ a. fine.meaning a) (λ t _. t) (λ _ a. coarse.meaning a)
+        (λ _ a _. verbatim.keeps a) tt (nla_items p)
+        (ok_under (values fine.meaning (nla_items p)) x h));
     alike = λ p q b h e.
-        subst (λ (qs : List (Result Attribute ℕ)).
-        alike_pairs fine.alike (nla_items p) qs ≡ true)
-        (items_same (nla_items p) (nla_items q) e)
-        (itself law p b (ok_under (values fine.meaning (nla_items p)) x h));
+        list_alike (λ _ a. fine.meaning a) (λ t _. t) (λ _ a c. fine.alike a c)
+        (λ _ a c. coarse.alike a c) (λ _. each_alike law) tt p q b
+        (ok_under (values fine.meaning (nla_items p)) x h) e;
+    contains = inr (record {
+      here = listed fine.family fine.meaning fine.alike fine.is_set;
+      inside = fine.contents;
+      is_here = refl;
+      there = listed coarse.family coarse.meaning coarse.alike coarse.is_set;
+      within = coarse.contents;
+      is_there = refl;
+      single = verbatim.single;
+      same = verbatim.same;
+      in_order = verbatim.in_order;
+    });
   }

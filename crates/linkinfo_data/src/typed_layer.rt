@@ -1,6 +1,11 @@
 //! The layer whose families have types.
 
 ghost use Rattle.linkinfo_table.specs.Members.{Members};
+ghost use Rattle.linkinfo_typed.specs.declared.bond.InfoBond.{InfoBond};
+ghost use Rattle.linkinfo_typed.specs.declared.bond_port.InfoBondPort.{InfoBondPort};
+ghost use Rattle.linkinfo_typed.specs.declared.bridge.InfoBridge.{InfoBridge};
+ghost use Rattle.linkinfo_typed.specs.declared.bridge_port.InfoBridgePort.{InfoBridgePort};
+ghost use Rattle.linkinfo_typed.specs.declared.can.InfoCan.{InfoCan};
 ghost use Rattle.linkinfo_typed.specs.declared.dsa.InfoDsa.{InfoDsa};
 ghost use Rattle.linkinfo_typed.specs.declared.hsr.InfoHsr.{InfoHsr};
 ghost use Rattle.linkinfo_typed.specs.declared.tun.InfoTun.{InfoTun};
@@ -20,15 +25,17 @@ use crate::port_data::{InfoPortDataOf, PortFamily, encode_port_data, of_port};
 use crate::tunnels::{TunnelFamily, of_tunnel};
 use linkinfo_devices::InfoVrfPort;
 use linkinfo_peers::InfoTeamPort;
-use linkinfo_table::lower::{InfoBond, InfoBondPort, InfoBridge, InfoBridgePort, InfoCan};
 use linkinfo_table::{LinkLayer, LinkPeer, ListedFamily};
-use linkinfo_typed::{InfoDsa, InfoHsr, InfoTun, InfoVlan};
+use linkinfo_typed::{
+    InfoBond, InfoBondPort, InfoBridge, InfoBridgePort, InfoCan, InfoDsa, InfoHsr, InfoTun,
+    InfoVlan,
+};
 use nla_frame::{Bytes, DecodeError, HeaderCount};
 use std::alloc::Global;
 use std::marker::PhantomData;
 
-/// The layer whose peers are `P`, and whose attributes of `dsa`, `hsr`, `tun` and `vlan` links have
-/// types. Those of `bond`, `bridge` and `can` links, and of ports of bonds and bridges, are opaque.
+/// The layer whose peers are `P`, and whose attributes of `bond`, `bridge`, `can`, `dsa`, `hsr`,
+/// `tun` and `vlan` links, and of ports of bonds and bridges, have types.
 ///
 /// A list of links with such attributes is `VecLinkInfoOf<Typed<Bytes>>`.
 #[derive(Clone, Debug, PartialEq, Eq, Drop)]
@@ -75,6 +82,11 @@ impl<P: LinkPeer> DataLayer for Typed<P> {
     ghost port_data_known = { port_known (typed_families P.LinkPeer.own) };
 
     fn lawful() {
+        supplied_lawful::<InfoBond>();
+        supplied_lawful::<InfoBondPort>();
+        supplied_lawful::<InfoBridge>();
+        supplied_lawful::<InfoBridgePort>();
+        supplied_lawful::<InfoCan>();
         supplied_lawful::<InfoDsa>();
         supplied_lawful::<InfoHsr>();
         supplied_lawful::<InfoTun>();
@@ -156,6 +168,16 @@ impl<P: LinkPeer> DataLayer for Typed<P> {
 /// The specification of the attributes of each family that the typed layer has in place of an
 /// opaque one.
 pub trait TypedFamilies {
+    ghost bond: { Members InfoBond };
+
+    ghost bond_port: { Members InfoBondPort };
+
+    ghost bridge: { Members InfoBridge };
+
+    ghost bridge_port: { Members InfoBridgePort };
+
+    ghost can: { Members InfoCan };
+
     ghost dsa: { Members InfoDsa };
 
     ghost hsr: { Members InfoHsr };
@@ -170,6 +192,16 @@ pub trait TypedFamilies {
 pub struct TypedRows;
 
 impl TypedFamilies for TypedRows {
+    ghost bond = { ⟦<InfoBond as ListedFamily>⟧.members tt };
+
+    ghost bond_port = { ⟦<InfoBondPort as ListedFamily>⟧.members tt };
+
+    ghost bridge = { ⟦<InfoBridge as ListedFamily>⟧.members tt };
+
+    ghost bridge_port = { ⟦<InfoBridgePort as ListedFamily>⟧.members tt };
+
+    ghost can = { ⟦<InfoCan as ListedFamily>⟧.members tt };
+
     ghost dsa = { ⟦<InfoDsa as ListedFamily>⟧.members tt };
 
     ghost hsr = { ⟦<InfoHsr as ListedFamily>⟧.members tt };

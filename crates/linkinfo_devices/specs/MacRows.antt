@@ -45,7 +45,7 @@ use Rattle.linkinfo_table.specs.FamilyRows.{
 use Rattle.linkinfo_table.specs.FamilyRowLaws.{table_lookup}
 use Rattle.linkinfo_table.specs.Lookups.{LookupSays}
 use Rattle.linkinfo_table.specs.ByRows.{members_with, rows_are_family}
-use Rattle.linkinfo_table.specs.Contents.{Contents}
+use Rattle.linkinfo_table.specs.Contents.{Contents, payload_headers}
 use Rattle.linkinfo_table.specs.Described.{LookupContains}
 use Rattle.linkinfo_table.specs.Members.{IsFamily}
 use Rattle.linkinfo_table.specs.Rows.{headers_inside, meaning_in}
@@ -67,6 +67,7 @@ use Rattle.linkinfo_devices.specs.MacView.{
 use Rattle.linkinfo_devices.specs.Nested.{
   nested_contained,
   nested_contains,
+  nested_counts,
   nested_contents,
   nested_rows,
   nested_owes,
@@ -154,6 +155,14 @@ pub mac_contains : {X : Type 0} (f : Family) (attribute : X → Attribute) (l : 
 mac_contains f attribute l k c n =
     nested_contains f (λ d. l.other d) attribute (λ xs. l.mac_addr_data xs) (mac_plain_rows l)
     (mac_keeps attribute l k) c n
+
+pub mac_counts : {X : Type 0} (f : Family) (attribute : X → Attribute) (l : MacLabels X) →
+    MacLabelsKeep attribute l → (c : ℕ) (a : Attribute) →
+    headers_inside (λ n. row_of (mac_rows f attribute l c n)) a
+    ≡ payload_headers (mac_contents f attribute l c (masked a.kind)) a.value
+mac_counts f attribute l k c a =
+    nested_counts f (λ d. l.other d) attribute (λ xs. l.mac_addr_data xs) (mac_plain_rows l)
+    (mac_keeps attribute l k) c a
 
 -- what `LinkFamily` requires of such a family
 pub mac_is : {X : Type 0} (f : Family) (attribute : X → Attribute) (l : MacLabels X) →

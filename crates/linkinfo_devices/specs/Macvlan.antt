@@ -13,7 +13,7 @@ use Rattle.linkinfo_table.specs.FamilyRows.{
   row_of,
   table_row,
 }
-use Rattle.linkinfo_table.specs.Contents.{Contents}
+use Rattle.linkinfo_table.specs.Contents.{Contents, payload_headers}
 use Rattle.linkinfo_table.specs.Described.{LookupContains}
 use Rattle.linkinfo_table.specs.Lookups.{LookupSays}
 use Rattle.linkinfo_table.specs.ByRows.{members_with}
@@ -23,6 +23,7 @@ use Rattle.linkinfo_table.specs.declared.decoded.Decoded.{Decoded}
 use Rattle.linkinfo_devices.specs.MacRows.{
   mac_contains,
   mac_contents,
+  mac_counts,
   mac_is,
   mac_lookup,
   mac_stores,
@@ -191,6 +192,12 @@ pub mac_vlan_contains : (c n : ℕ) →
     LookupContains family.MacVlan (lookup_of (mac_vlan_rows c n)) (mac_vlan_contents c n)
 mac_vlan_contains c n =
     mac_contains family.MacVlan mac_vlan_attribute mac_vlan_labels mac_vlan_keep c n
+
+pub mac_vlan_counts : (c : ℕ) (a : Attribute) →
+    headers_inside (λ n. row_of (mac_vlan_rows c n)) a
+    ≡ payload_headers (mac_vlan_contents c (masked a.kind)) a.value
+mac_vlan_counts c a =
+    mac_counts family.MacVlan mac_vlan_attribute mac_vlan_labels mac_vlan_keep c a
 
 -- the attributes inside so many lists are those of a lawful family
 pub mac_vlan_is : (c : ℕ) →

@@ -47,6 +47,7 @@ use Rattle.linkinfo_table.specs.Contents.{
   IsContent,
   ListOf,
   Listed,
+  payload_headers,
   single_value,
   each_accepted,
 }
@@ -88,7 +89,7 @@ use Rattle.linkinfo_table.specs.FamilyRows.{
   find,
   plain_or_absent,
 }
-use Rattle.linkinfo_table.specs.Described.{LookupContains, flat_contains}
+use Rattle.linkinfo_table.specs.Described.{LookupContains, flat_contains, list_counts}
 use Rattle.linkinfo_table.specs.ErrorMemory.{IsOwnCertain}
 use Rattle.linkinfo_table.specs.FamilyRowLaws.{owed, table_flat, table_owes}
 use Rattle.linkinfo_table.specs.RowLaws.{rows_quarter}
@@ -127,16 +128,17 @@ LendsList canonical is_custom x None = is_custom x ≡ false
 
 -- inside an attribute with a row that has a shape of the table, or without a row, no header is
 -- examined
+flat_row : {X : Type 0} (r : FamilyRow X) (a : Attribute) → IsFlat r →
+    row_headers (row_of r) a ≡ 0
+flat_row (Plain shape label) a h = refl
+flat_row (Custom shape nested codec label) a h = absurd h
+flat_row (Refuses cause) a h = refl
+flat_row Absent a h = refl
+
 pub flat_headers : {X : Type 0} (rows : ℕ → FamilyRow X) (a : Attribute) →
     IsFlat (rows (masked a.kind)) → headers_inside (λ n. row_of (rows n)) a ≡ 0
 unfolding headers_inside
-flat_headers {X = X} rows a flat = go (rows (masked a.kind)) flat
-  where
-    go : (r : FamilyRow X) → IsFlat r → row_headers (row_of r) a ≡ 0
-    go (Plain shape label) h = refl
-    go (Custom shape nested codec label) h = absurd h
-    go (Refuses cause) h = refl
-    go Absent h = refl
+flat_headers rows a flat = flat_row (rows (masked a.kind)) a flat
 
 -- the rows of an attribute inside `around` lists, given the family's rows of the table
 abbrev pub nested_rows : {X : Type 0} → Family → (DefaultNla → X) → (X → Attribute) → (List X → X) →
@@ -348,13 +350,56 @@ module _ {X : Type 0} (f : Family) (other : DefaultNla → X) (attribute : X →
             (self_listed f (meaning_in f other (λ k. level levels k))
             (alike_in (λ k. level levels k))) (contents_below levels)
             else single_value)
-        go true = refl
+        go true = (refl, refl)
         go false = flat_contains f (table_row plain n) (table_flat attribute plain keeps n)
 
     pub nested_contains : (c n : ℕ) →
         LookupContains f (lookup_of (nested_rows f other attribute label plain c n))
         (nested_contents c n)
     nested_contains c n = contains_below (128 - c) n
+
+    -- and its headers are those in them
+    counts_below : (levels : ℕ) (a : Attribute) →
+        headers_inside (λ k. level levels k) a
+        ≡ payload_headers (contents_below levels (masked a.kind)) a.value
+    unfolding headers_inside
+    counts_below zero a = go (masked a.kind == 5)
+      where
+        go : (b : Bool) →
+            row_headers
+            (row_of (row_if b (Refuses cause.Depth) (table_row plain (masked a.kind)))) a ≡ 0
+        go true = refl
+        go false =
+            flat_row (table_row plain (masked a.kind)) a
+            (table_flat attribute plain keeps (masked a.kind))
+    counts_below (suc levels) a = go (λ b. counts_below levels b) (masked a.kind == 5)
+      where
+        go : ((b : Attribute) →
+            row_headers (level levels (masked b.kind)) b
+            ≡ payload_headers (contents_below levels (masked b.kind)) b.value) →
+            (b : Bool) →
+            row_headers
+            (row_of (row_if b (Custom shape.SelfList false
+            (inner_codec f other attribute 5 label (λ k. table_row plain k) (λ k. level levels k))
+            label) (table_row plain (masked a.kind)))) a
+            ≡ payload_headers
+            (if b
+            then ListOf
+            (self_listed f (meaning_in f other (λ k. level levels k))
+            (alike_in (λ k. level levels k))) (contents_below levels)
+            else single_value) a.value
+        go each true =
+            list_counts (meaning_in f other (λ k. level levels k))
+            (headers_inside (λ k. level levels k)) (contents_below levels) each
+            (nla_items a.value)
+        go each false =
+            flat_row (table_row plain (masked a.kind)) a
+            (table_flat attribute plain keeps (masked a.kind))
+
+    pub nested_counts : (c : ℕ) (a : Attribute) →
+        headers_inside (λ k. at c k) a
+        ≡ payload_headers (nested_contents c (masked a.kind)) a.value
+    nested_counts c a = counts_below (128 - c) a
 
     pub nested_owes : (keeps_list : (xs : List X) →
         attribute (label xs) ≡ record { kind = 5; value = list_string (map attribute xs) }) →

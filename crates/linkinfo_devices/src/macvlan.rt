@@ -4,6 +4,7 @@ ghost use Rattle.linkinfo_devices.specs.Macvlan.{
   mac_vlan_attribute,
   mac_vlan_contains,
   mac_vlan_contents,
+  mac_vlan_counts,
   mac_vlan_holds_list,
   mac_vlan_is,
   mac_vlan_keep,
@@ -269,6 +270,8 @@ impl LinkFamily for InfoMacVlan {
     ghost lawful = { mac_vlan_is };
 
     ghost described = { mac_vlan_contains };
+
+    ghost counted = { mac_vlan_counts };
 
     ghost error_certain = { λ c a e.
         rows_certain family.MacVlan (λ d. macvlan.Other d) (mac_vlan_rows c) a e

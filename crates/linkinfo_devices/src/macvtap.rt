@@ -4,6 +4,7 @@ ghost use Rattle.linkinfo_devices.specs.Macvtap.{
   mac_vtap_attribute,
   mac_vtap_contains,
   mac_vtap_contents,
+  mac_vtap_counts,
   mac_vtap_holds_list,
   mac_vtap_is,
   mac_vtap_keep,
@@ -269,6 +270,8 @@ impl LinkFamily for InfoMacVtap {
     ghost lawful = { mac_vtap_is };
 
     ghost described = { mac_vtap_contains };
+
+    ghost counted = { mac_vtap_counts };
 
     ghost error_certain = { λ c a e.
         rows_certain family.MacVtap (λ d. macvtap.Other d) (mac_vtap_rows c) a e

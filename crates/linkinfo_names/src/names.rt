@@ -12,7 +12,7 @@ use crate::entries::{
 // End: written by tables/generate.
 use nla_frame::Family;
 
-/// The kernel's name of a type of attributes, as `IFLA_VXLAN_ID`: at most 31 bytes.
+/// The kernel's name of a type of attributes, as `IFLA_VXLAN_ID`: at most 47 bytes.
 ///
 /// The type is without its two flag bits. `None` if the type has no row in that family, and for
 /// families whose attributes are all opaque. The kernel has one name for attributes of gre and
@@ -22,7 +22,7 @@ use nla_frame::Family;
 #[tactic(auto, using(crate::proofs::Short::short_name))]
 pub fn attribute_name(family: Family, kind: u16) -> Option<&'static str>
     ensures name { option_copied result ≡ attribute_name family kind }
-    ensures most { IfSome result (λ name. length name.now ≤ 31) }
+    ensures most { IfSome result (λ name. length name.now ≤ 47) }
 {
     name_among(family_names(family), kind)
 }
@@ -80,7 +80,12 @@ fn family_names(family: Family) -> &'static [Entry]
         | Family::Tun
         | Family::Vlan
         | Family::Wireguard
-        | Family::VlanQosMapping => &[],
+        | Family::VlanQosMapping
+        | Family::BondAdInfo
+        | Family::BridgeQuerierState
+        | Family::CanTdc
+        | Family::CanCtrlModeExt
+        | Family::CanPwm => &[],
         // End: written by tables/generate.
     }
 }

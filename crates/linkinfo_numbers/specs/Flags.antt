@@ -6,6 +6,10 @@ use Rattle.std.proofs.lemmas.Nat.{and_mask}
 use Rattle.bitflags.specs.Sets.{known_bits}
 
 -- a number converted to a set of its width keeps all its bits
+pub every_bit_8 : (table : List (List ℕ × ℕ)) → known_bits table ≡ 0xff → (n : ℕ) → n < 2 ^ 8 →
+    bit_and n (known_bits table) ≡ n
+every_bit_8 table known n h = ap (bit_and n) known ∙ (and_mask n 8 ∙ (omega arith))
+
 pub every_bit_16 : (table : List (List ℕ × ℕ)) → known_bits table ≡ 0xffff → (n : ℕ) → n < 2 ^ 16 →
     bit_and n (known_bits table) ≡ n
 every_bit_16 table known n h = ap (bit_and n) known ∙ (and_mask n 16 ∙ (omega arith))

@@ -1,5 +1,8 @@
 -- Begin: written by tables/generate from tables/numbers.
 pub mod Amt
+pub mod Bond
+pub mod Bridge
+pub mod Can
 pub mod Ethernet
 pub mod Geneve
 pub mod Gre

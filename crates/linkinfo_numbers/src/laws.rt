@@ -15,6 +15,85 @@ ghost use Rattle.linkinfo_numbers.specs.Amt.{
   amt_mode_table,
   amt_mode_text,
 };
+ghost use Rattle.linkinfo_numbers.specs.Bond.{
+  bond_mode,
+  bond_mode_number,
+  bond_mode_table,
+  bond_mode_text,
+  bond_arp_validate,
+  bond_arp_validate_number,
+  bond_arp_validate_table,
+  bond_arp_validate_text,
+  bond_arp_all_targets,
+  bond_arp_all_targets_number,
+  bond_arp_all_targets_table,
+  bond_arp_all_targets_text,
+  bond_primary_reselect,
+  bond_primary_reselect_number,
+  bond_primary_reselect_table,
+  bond_primary_reselect_text,
+  bond_fail_over_mac,
+  bond_fail_over_mac_number,
+  bond_fail_over_mac_table,
+  bond_fail_over_mac_text,
+  bond_xmit_hash_policy,
+  bond_xmit_hash_policy_number,
+  bond_xmit_hash_policy_table,
+  bond_xmit_hash_policy_text,
+  bond_all_port_active,
+  bond_all_port_active_number,
+  bond_all_port_active_table,
+  bond_lacp_rate,
+  bond_lacp_rate_number,
+  bond_lacp_rate_table,
+  bond_lacp_rate_text,
+  bond_ad_select,
+  bond_ad_select_number,
+  bond_ad_select_table,
+  bond_ad_select_text,
+  bond_port_state,
+  bond_port_state_number,
+  bond_port_state_table,
+  bond_port_state_text,
+  mii_status,
+  mii_status_number,
+  mii_status_table,
+  mii_status_text,
+  churn_state,
+  churn_state_number,
+  churn_state_table,
+  churn_state_text,
+  lacp_state,
+  lacp_state16,
+  on_off,
+  on_off_number,
+  on_off_table,
+  on_off_text,
+};
+ghost use Rattle.linkinfo_numbers.specs.Bridge.{
+  bridge_stp_state,
+  bridge_stp_state_number,
+  bridge_stp_state_table,
+  bridge_stp_mode,
+  bridge_stp_mode_number,
+  bridge_stp_mode_table,
+  bridge_stp_mode_text,
+  bridge_multicast_router_type,
+  bridge_multicast_router_type_number,
+  bridge_multicast_router_type_table,
+  bridge_port_state,
+  bridge_port_state_number,
+  bridge_port_state_table,
+  bridge_port_state_text,
+  bridge_boolean_option_flags,
+};
+ghost use Rattle.linkinfo_numbers.specs.Can.{
+  can_state,
+  can_state_number,
+  can_state_table,
+  can_state_text,
+  can_ctrl_mode_flags,
+};
 ghost use Rattle.linkinfo_numbers.specs.Ethernet.{
   ethernet_protocol,
   ethernet_protocol_number,
@@ -132,6 +211,16 @@ ghost use Rattle.linkinfo_numbers.specs.Word.{ReadsWords};
 
 // Begin: written by tables/generate from tables/numbers (types).
 use crate::amt::AmtMode;
+use crate::bond::{
+    BondAdSelect, BondAllPortActive, BondArpAllTargets, BondArpValidate, BondFailOverMac,
+    BondLacpRate, BondMode, BondPortState, BondPrimaryReselect, BondXmitHashPolicy, ChurnState,
+    LacpState, LacpState16, MiiStatus, OnOff,
+};
+use crate::bridge::{
+    BridgeBooleanOptionFlags, BridgeMulticastRouterType, BridgePortState, BridgeStpMode,
+    BridgeStpState,
+};
+use crate::can::{CanCtrlModeFlags, CanState};
 use crate::ethernet::EthernetProtocol;
 use crate::geneve::GeneveDf;
 use crate::gre::{ErSpanDir, GreEncapFlags, GreEncapType, GreIOFlags};
@@ -160,6 +249,29 @@ use std::hash::Hash;
 pub fn number_round_trip(number: u64)
     // Begin: written by tables/generate from tables/numbers (of numbers).
     ensures amt_mode { amt_mode_number (amt_mode number) ≡ number }
+    ensures bond_mode { bond_mode_number (bond_mode number) ≡ number }
+    ensures bond_arp_validate { bond_arp_validate_number (bond_arp_validate number) ≡ number }
+    ensures bond_arp_all_targets { bond_arp_all_targets_number
+        (bond_arp_all_targets number) ≡ number }
+    ensures bond_primary_reselect { bond_primary_reselect_number
+        (bond_primary_reselect number) ≡ number }
+    ensures bond_fail_over_mac { bond_fail_over_mac_number (bond_fail_over_mac number) ≡ number }
+    ensures bond_xmit_hash_policy { bond_xmit_hash_policy_number
+        (bond_xmit_hash_policy number) ≡ number }
+    ensures bond_all_port_active { bond_all_port_active_number
+        (bond_all_port_active number) ≡ number }
+    ensures bond_lacp_rate { bond_lacp_rate_number (bond_lacp_rate number) ≡ number }
+    ensures bond_ad_select { bond_ad_select_number (bond_ad_select number) ≡ number }
+    ensures bond_port_state { bond_port_state_number (bond_port_state number) ≡ number }
+    ensures mii_status { mii_status_number (mii_status number) ≡ number }
+    ensures churn_state { churn_state_number (churn_state number) ≡ number }
+    ensures on_off { on_off_number (on_off number) ≡ number }
+    ensures bridge_stp_state { bridge_stp_state_number (bridge_stp_state number) ≡ number }
+    ensures bridge_stp_mode { bridge_stp_mode_number (bridge_stp_mode number) ≡ number }
+    ensures bridge_multicast_router_type { bridge_multicast_router_type_number
+        (bridge_multicast_router_type number) ≡ number }
+    ensures bridge_port_state { bridge_port_state_number (bridge_port_state number) ≡ number }
+    ensures can_state { can_state_number (can_state number) ≡ number }
     ensures ethernet_protocol { ethernet_protocol_number (ethernet_protocol number) ≡ number }
     ensures geneve_df { geneve_df_number (geneve_df number) ≡ number }
     ensures gre_encap_type { gre_encap_type_number (gre_encap_type number) ≡ number }
@@ -191,6 +303,24 @@ pub fn number_round_trip(number: u64)
 pub fn value_round_trip()
     // Begin: written by tables/generate from tables/numbers (of values).
     ensures amt_mode { ReadsBackWhereProper amt_mode_table }
+    ensures bond_mode { ReadsBackWhereProper bond_mode_table }
+    ensures bond_arp_validate { ReadsBackWhereProper bond_arp_validate_table }
+    ensures bond_arp_all_targets { ReadsBackWhereProper bond_arp_all_targets_table }
+    ensures bond_primary_reselect { ReadsBackWhereProper bond_primary_reselect_table }
+    ensures bond_fail_over_mac { ReadsBackWhereProper bond_fail_over_mac_table }
+    ensures bond_xmit_hash_policy { ReadsBackWhereProper bond_xmit_hash_policy_table }
+    ensures bond_all_port_active { ReadsBackWhereProper bond_all_port_active_table }
+    ensures bond_lacp_rate { ReadsBackWhereProper bond_lacp_rate_table }
+    ensures bond_ad_select { ReadsBackWhereProper bond_ad_select_table }
+    ensures bond_port_state { ReadsBackWhereProper bond_port_state_table }
+    ensures mii_status { ReadsBackWhereProper mii_status_table }
+    ensures churn_state { ReadsBackWhereProper churn_state_table }
+    ensures on_off { ReadsBackWhereProper on_off_table }
+    ensures bridge_stp_state { ReadsBackWhereProper bridge_stp_state_table }
+    ensures bridge_stp_mode { ReadsBackWhereProper bridge_stp_mode_table }
+    ensures bridge_multicast_router_type { ReadsBackWhereProper bridge_multicast_router_type_table }
+    ensures bridge_port_state { ReadsBackWhereProper bridge_port_state_table }
+    ensures can_state { ReadsBackWhereProper can_state_table }
     ensures ethernet_protocol { ReadsBackWhereProper ethernet_protocol_table }
     ensures geneve_df { ReadsBackWhereProper geneve_df_table }
     ensures gre_encap_type { ReadsBackWhereProper gre_encap_type_table }
@@ -222,6 +352,29 @@ pub fn value_round_trip()
 pub fn word_round_trip()
     // Begin: written by tables/generate from tables/numbers (of words).
     ensures amt_mode { ReadsWords Family.Amt amt_mode_text amt_mode_table.named }
+    ensures bond_mode { ReadsWords Family.Bond bond_mode_text bond_mode_table.named }
+    ensures bond_arp_validate { ReadsWords Family.Bond bond_arp_validate_text
+        bond_arp_validate_table.named }
+    ensures bond_arp_all_targets { ReadsWords Family.Bond bond_arp_all_targets_text
+        bond_arp_all_targets_table.named }
+    ensures bond_primary_reselect { ReadsWords Family.Bond bond_primary_reselect_text
+        bond_primary_reselect_table.named }
+    ensures bond_fail_over_mac { ReadsWords Family.Bond bond_fail_over_mac_text
+        bond_fail_over_mac_table.named }
+    ensures bond_xmit_hash_policy { ReadsWords Family.Bond bond_xmit_hash_policy_text
+        bond_xmit_hash_policy_table.named }
+    ensures bond_lacp_rate { ReadsWords Family.Bond bond_lacp_rate_text bond_lacp_rate_table.named }
+    ensures bond_ad_select { ReadsWords Family.Bond bond_ad_select_text bond_ad_select_table.named }
+    ensures bond_port_state { ReadsWords Family.BondPort bond_port_state_text
+        bond_port_state_table.named }
+    ensures mii_status { ReadsWords Family.BondPort mii_status_text mii_status_table.named }
+    ensures churn_state { ReadsWords Family.BondPort churn_state_text churn_state_table.named }
+    ensures on_off { ReadsWords Family.Bond on_off_text on_off_table.named }
+    ensures bridge_stp_mode { ReadsWords Family.Bridge bridge_stp_mode_text
+        bridge_stp_mode_table.named }
+    ensures bridge_port_state { ReadsWords Family.BridgePort bridge_port_state_text
+        bridge_port_state_table.named }
+    ensures can_state { ReadsWords Family.Can can_state_text can_state_table.named }
     ensures geneve_df { ReadsWords Family.Geneve geneve_df_text geneve_df_table.named }
     ensures hsr_protocol { ReadsWords Family.Hsr hsr_protocol_text hsr_protocol_table.named }
     ensures ip_vlan_mode { ReadsWords Family.IpVlan ip_vlan_mode_text ip_vlan_mode_table.named }
@@ -276,6 +429,66 @@ pub fn equal_sets_hash_alike()
 {}
 
 // Begin: written by tables/generate from tables/numbers (of bits).
+
+/// The bits of `LacpState`: `LACP_STATE_LACP_ACTIVITY` and the others
+/// (include/uapi/linux/if_bonding.h).
+pub fn lacp_state_bits()
+    ensures activity { LacpState.Activity ≡ lacp_state 0x01 }
+    ensures timeout { LacpState.Timeout ≡ lacp_state 0x02 }
+    ensures aggregation { LacpState.Aggregation ≡ lacp_state 0x04 }
+    ensures synchronization { LacpState.Synchronization ≡ lacp_state 0x08 }
+    ensures collecting { LacpState.Collecting ≡ lacp_state 0x10 }
+    ensures distributing { LacpState.Distributing ≡ lacp_state 0x20 }
+    ensures defaulted { LacpState.Defaulted ≡ lacp_state 0x40 }
+    ensures expired { LacpState.Expired ≡ lacp_state 0x80 }
+{}
+
+/// The bits of `LacpState16`: `LACP_STATE_LACP_ACTIVITY` and the others
+/// (include/uapi/linux/if_bonding.h).
+pub fn lacp_state16_bits()
+    ensures activity { LacpState16.Activity ≡ lacp_state16 0x01 }
+    ensures timeout { LacpState16.Timeout ≡ lacp_state16 0x02 }
+    ensures aggregation { LacpState16.Aggregation ≡ lacp_state16 0x04 }
+    ensures synchronization { LacpState16.Synchronization ≡ lacp_state16 0x08 }
+    ensures collecting { LacpState16.Collecting ≡ lacp_state16 0x10 }
+    ensures distributing { LacpState16.Distributing ≡ lacp_state16 0x20 }
+    ensures defaulted { LacpState16.Defaulted ≡ lacp_state16 0x40 }
+    ensures expired { LacpState16.Expired ≡ lacp_state16 0x80 }
+{}
+
+/// The bits of `BridgeBooleanOptionFlags` (include/uapi/linux/if_bridge.h).
+pub fn bridge_boolean_option_flag_bits()
+    ensures no_link_local_learn { BridgeBooleanOptionFlags.NoLinkLocalLearn ≡
+        bridge_boolean_option_flags 0x1 }
+    ensures vlan_multicast_snooping { BridgeBooleanOptionFlags.VlanMulticastSnooping ≡
+        bridge_boolean_option_flags 0x2 }
+    ensures mst_enable { BridgeBooleanOptionFlags.MstEnable ≡ bridge_boolean_option_flags 0x4 }
+    ensures mdb_offload_fail_notif { BridgeBooleanOptionFlags.MdbOffloadFailNotif ≡
+        bridge_boolean_option_flags 0x8 }
+    ensures fdb_local_vlan0 { BridgeBooleanOptionFlags.FdbLocalVlan0 ≡
+        bridge_boolean_option_flags 0x10 }
+{}
+
+/// The bits of `CanCtrlModeFlags`: `CAN_CTRLMODE_LOOPBACK` and the others
+/// (include/uapi/linux/can/netlink.h).
+pub fn can_ctrl_mode_flag_bits()
+    ensures loopback { CanCtrlModeFlags.Loopback ≡ can_ctrl_mode_flags 0x1 }
+    ensures listen_only { CanCtrlModeFlags.ListenOnly ≡ can_ctrl_mode_flags 0x2 }
+    ensures triple_sampling { CanCtrlModeFlags.TripleSampling ≡ can_ctrl_mode_flags 0x4 }
+    ensures one_shot { CanCtrlModeFlags.OneShot ≡ can_ctrl_mode_flags 0x8 }
+    ensures berr_reporting { CanCtrlModeFlags.BerrReporting ≡ can_ctrl_mode_flags 0x10 }
+    ensures fd { CanCtrlModeFlags.Fd ≡ can_ctrl_mode_flags 0x20 }
+    ensures presume_ack { CanCtrlModeFlags.PresumeAck ≡ can_ctrl_mode_flags 0x40 }
+    ensures fd_non_iso { CanCtrlModeFlags.FdNonIso ≡ can_ctrl_mode_flags 0x80 }
+    ensures cc_len8_dlc { CanCtrlModeFlags.CcLen8Dlc ≡ can_ctrl_mode_flags 0x100 }
+    ensures tdc_auto { CanCtrlModeFlags.TdcAuto ≡ can_ctrl_mode_flags 0x200 }
+    ensures tdc_manual { CanCtrlModeFlags.TdcManual ≡ can_ctrl_mode_flags 0x400 }
+    ensures restricted { CanCtrlModeFlags.Restricted ≡ can_ctrl_mode_flags 0x800 }
+    ensures xl { CanCtrlModeFlags.Xl ≡ can_ctrl_mode_flags 0x1000 }
+    ensures xl_tdc_auto { CanCtrlModeFlags.XlTdcAuto ≡ can_ctrl_mode_flags 0x2000 }
+    ensures xl_tdc_manual { CanCtrlModeFlags.XlTdcManual ≡ can_ctrl_mode_flags 0x4000 }
+    ensures xl_tms { CanCtrlModeFlags.XlTms ≡ can_ctrl_mode_flags 0x8000 }
+{}
 
 /// The bits of `GreIOFlags`: `GRE_CSUM` and the others (include/uapi/linux/if_tunnel.h).
 pub fn gre_io_flag_bits()

@@ -43,6 +43,7 @@ use Rattle.nla_frame.proofs.Stepping.{by_nla_items, nla_items-list_string, nla_i
 use Rattle.linkinfo_shapes.specs.declared.shape.Shape.{Shape}
 use Rattle.linkinfo_shapes.specs.declared.shape.Shape.TheVariants.{V4List, V6List}
 use Rattle.linkinfo_table.specs.Codecs.{Codec, Inside, IsCodec, Own, PayloadError}
+use Rattle.linkinfo_table.specs.Contents.{counted_in}
 use Rattle.linkinfo_table.specs.ListLaws.{
   accepted,
   family_read_well,
@@ -82,6 +83,17 @@ address_headers width [] = 0
 address_headers width ((Err n) ∷ more) = n
 address_headers width ((Ok a) ∷ more) =
     1 + (if length a.value == width then address_headers width more else 0)
+
+pub address_counts : (width : ℕ) (ps : List (Result Attribute ℕ)) →
+    address_headers width ps ≡ counted_in (λ a. length a.value == width) (λ _. 0) ps
+address_counts width [] = refl
+address_counts width ((Err n) ∷ more) = refl
+address_counts width ((Ok a) ∷ more) =
+    ap (λ (n : ℕ). 1 + (if length a.value == width then n else 0)) (address_counts width more)
+    ∙ ap (λ (n : ℕ). 1 + n) (none_more _)
+  where
+    none_more : (n : ℕ) → n ≡ 0 + n
+    none_more n = omega arith
 
 -- a list that begins with an address needs memory
 abbrev pub address_memory : ℕ → List (Result Attribute ℕ) → Bool

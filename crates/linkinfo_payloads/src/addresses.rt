@@ -28,11 +28,12 @@ ghost use Rattle.linkinfo_shapes.specs.declared.shape.Shape.{Shape};
 ghost use Rattle.linkinfo_shapes.specs.declared.shape.Shape.TheVariants as shape;
 ghost use Rattle.linkinfo_table.specs.Calls.{Checks, Compares, Reads};
 ghost use Rattle.linkinfo_table.specs.Contents.{NoList};
-ghost use Rattle.linkinfo_table.specs.Described.{ShapeContains, address_place};
+ghost use Rattle.linkinfo_table.specs.Described.{ShapeContains, address_count, address_place};
 ghost use Rattle.linkinfo_table.specs.Difference.{payload_error};
 ghost use Rattle.linkinfo_table.specs.Lists.{AllWell, alike_pairs};
 ghost use Rattle.linkinfo_table.specs.Payloads.{IsAddresses, placed};
 ghost use Rattle.linkinfo_payloads.specs.Addresses.{
+  address_counts,
   address_headers,
   address_memory,
   address_payload,
@@ -62,7 +63,7 @@ pub trait Address: Fixed + Eq + ExactEq + Drop {
     ghost of_shape: { IsAddresses shape };
 
     ghost placed: { (family : Family) →
-        ShapeContains family shape (NoList (address_place Self.WIDTH)) };
+        ShapeContains family shape (NoList (address_place Self.WIDTH) (address_count Self.WIDTH)) };
 
     ghost aligned: { Self.WIDTH % 4 ≡ 0 };
 
@@ -212,11 +213,13 @@ impl<A: Address> LinkPayload for Addresses<A> {
 
     ghost needs_memory = { λ p. address_memory A.WIDTH (nla_items p) };
 
-    ghost contents = { NoList (address_place A.WIDTH) };
+    ghost contents = { NoList (address_place A.WIDTH) (address_count A.WIDTH) };
 
     ghost contained = { tt };
 
     ghost described = { A.Address.placed };
+
+    ghost counted = { λ p. address_counts A.WIDTH (nla_items p) };
 
     ghost lawful = { address_payload A.WIDTH A.value_of A.bytes_of A.holds A.fixed A.aligned A.some
         A.short A.Address.shape A.Address.of_shape };
@@ -335,7 +338,7 @@ fn address_check<A: Address>(
 /// that of the bytes where no header is accepted.
 fn address_error<A: Address>(payload: &[u8]) -> Option<usize>
     ensures error { result
-        ≡ payload_error (NoList (address_place A.WIDTH))
+        ≡ payload_error (NoList (address_place A.WIDTH) (address_count A.WIDTH))
         (is_ok (addresses A.WIDTH A.value_of (nla_items payload.now))) payload.now }
     ensures within { IfSome result (λ n. n ≤ 4 + length payload.now) }
 {

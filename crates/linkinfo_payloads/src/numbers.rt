@@ -239,6 +239,8 @@ impl<N: Number> LinkPayload for Numbers<N> {
 
     ghost described = { λ family. exact_contains family N.Number.shape N.Number.of_shape };
 
+    ghost counted = { λ _. refl };
+
     ghost lawful = { exact_payload (is_multiple N.WIDTH) (array_of N.WIDTH N.value_of)
         (λ xs. flat_map N.bytes_of xs) (λ xs. AllByRecursion N.holds xs) (array_memory N.WIDTH)
         (array_exactly N.WIDTH N.value_of N.bytes_of N.holds N.positive N.fixed) N.Number.shape

@@ -116,6 +116,8 @@ impl LinkPayload for BridgeId {
 
     ghost described = { λ _. refl };
 
+    ghost counted = { λ _. refl };
+
     ghost lawful = { bridge_id_payload };
 
     fn read(
@@ -245,6 +247,8 @@ impl LinkPayload for CanBerrCounter {
     ghost contained = { tt };
 
     ghost described = { λ _. refl };
+
+    ghost counted = { λ _. refl };
 
     ghost lawful = { can_berr_counter_payload };
 
@@ -409,6 +413,8 @@ impl LinkPayload for CanBitTiming {
     ghost contained = { tt };
 
     ghost described = { λ _. refl };
+
+    ghost counted = { λ _. refl };
 
     ghost lawful = { can_bit_timing_payload };
 
@@ -584,6 +590,8 @@ impl LinkPayload for CanBitTimingConst {
     ghost contained = { tt };
 
     ghost described = { λ _. refl };
+
+    ghost counted = { λ _. refl };
 
     ghost lawful = { can_bit_timing_const_payload };
 

@@ -71,8 +71,9 @@ use Rattle.linkinfo_table.specs.Difference.{
   stays,
   typed_difference,
 }
+use Rattle.linkinfo_table.specs.EachAttribute.{both_parts}
 use Rattle.linkinfo_table.specs.Last.{StandsIn, attributes_of, placed_from}
-use Rattle.linkinfo_table.specs.Lists.{◌>>=◌, alike_pairs, alike_under, values}
+use Rattle.linkinfo_table.specs.Lists.{alike_pairs, alike_under, values}
 use Rattle.linkinfo_table.specs.declared.difference.Difference.{Difference}
 use Rattle.linkinfo_table.specs.declared.last.PlacedNla.{PlacedNla}
 
@@ -90,19 +91,12 @@ true_ok (Err e) h = absurd cc
 
 -- ---- accepted lists
 
-both_ok : {X : Type 0} (m : Result X DecodeError) (v : Result (List X) DecodeError) →
-    IsOk (m >>= λ x. v >>= λ xs. let r : Result (List X) DecodeError = Ok (x ∷ xs) in r) →
-    IsOk m × IsOk v
-both_ok (Ok x) (Ok xs) ok = (refl, refl)
-both_ok (Ok x) (Err e) ok = absurd cc
-both_ok (Err e) v ok = absurd cc
-
 -- the first attribute of an accepted list is accepted, and so are the others
 pub front_ok : {X : Type 0} (m : Attribute → Result X DecodeError) (s rest : List ℕ)
     (a : Attribute) → IsOk (values m (nla_items s)) → nla_items s ≡ Ok a ∷ nla_items rest →
     IsOk (m a) × IsOk (values m (nla_items rest))
 front_ok m s rest a ok e =
-    both_ok (m a) (values m (nla_items rest))
+    both_parts (m a) (values m (nla_items rest))
     (subst (λ (ps : List (Result Attribute ℕ)). IsOk (values m ps)) e ok)
 
 -- ---- what is left of two lists, and of one list
@@ -342,7 +336,7 @@ lists_same l inside one_type law same s t h g =
     (λ t a b i j e. refl) tt 0 0 (nla_items s) (nla_items t) h g
 
 pairs_same : (contents : Contents) → PairSame contents
-pairs_same (NoList place) n accepts alike family p q law at other h g =
+pairs_same (NoList place count) n accepts alike family p q law at other h g =
     pair_none family (alike p.nla q.nla) p q
 pairs_same (ListOf l inside) n accepts alike family p q law at other h g =
     mapped_none (inner_difference p q) (list_difference l inside p.nla.value q.nla.value)
@@ -368,7 +362,7 @@ lists_accept l inside law same s =
     (nla_items s)
 
 errors_same : (contents : Contents) → ErrorSame contents
-errors_same (NoList place) n accepts alike a law at = own_none (accepts a) (place a.value)
+errors_same (NoList place count) n accepts alike a law at = own_none (accepts a) (place a.value)
 errors_same (ListOf l inside) n accepts alike a law at =
     mapped_none (λ k. 4 + k) (list_error l inside a.value)
     ∙ lists_accept l inside law.3 (λ k. errors_same (inside k)) a.value
@@ -388,7 +382,7 @@ module _ (contents : Contents) (accepts : List ℕ → Bool) (alike : List ℕ �
       by_contents : (c : Contents) → IsPayloadContent c accepts alike →
           is_none (payload_difference c family (alike p.nla.value q.nla.value) p q)
           ≡ alike p.nla.value q.nla.value
-      by_contents (NoList place) law = pair_none family (alike p.nla.value q.nla.value) p q
+      by_contents (NoList place count) law = pair_none family (alike p.nla.value q.nla.value) p q
       by_contents (ListOf l inside) law =
           mapped_none (inner_difference p q) (list_difference l inside p.nla.value q.nla.value)
           ∙ lists_same l inside law.2 law.3 (λ k. pairs_same (inside k)) p.nla.value q.nla.value
@@ -402,7 +396,7 @@ module _ (contents : Contents) (accepts : List ℕ → Bool) (alike : List ℕ �
     where
       by_contents : (c : Contents) → IsPayloadContent c accepts alike →
           is_none (payload_error c (accepts p) p) ≡ accepts p
-      by_contents (NoList place) law = own_none (accepts p) (place p)
+      by_contents (NoList place count) law = own_none (accepts p) (place p)
       by_contents (ListOf l inside) law =
           mapped_none (λ k. 4 + k) (list_error l inside p)
           ∙ lists_accept l inside law.3 (λ k. errors_same (inside k)) p

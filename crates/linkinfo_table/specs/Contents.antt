@@ -3,6 +3,7 @@ use Rattle.std.specs.Prelude.{
   ◌≡◌,
   ◌==◌,
   ◌&&◌,
+  ◌+◌,
   ℕ,
   Bool,
   true,
@@ -36,15 +37,30 @@ pub record Listed : Type 0 where
   pub is_whole : Bool
 
 -- What a payload contains: no list of a family, or a list of such attributes, of which those of
--- each type without flag bits contain these in turn. The error of a rejected payload without such a
--- list is at a place that the payload says, from the header of its attribute.
+-- each type without flag bits contain these in turn. Of a payload without such a list is given
+-- where its error is if it is rejected, from the header of its attribute, and how many headers are
+-- examined in it.
 pub data Contents : Type 0 where
-  NoList : (List ℕ → ℕ) → Contents
+  NoList : (List ℕ → ℕ) → (List ℕ → ℕ) → Contents
   ListOf : Listed → (ℕ → Contents) → Contents
 
--- a single value, whose error is at the attribute's header
+-- a single value, whose error is at the attribute's header, and which has no headers
 abbrev pub single_value : Contents
-single_value = NoList (λ _. 0)
+single_value = NoList (λ _. 0) (λ _. 0)
+
+-- The headers examined in a list up to the first attribute at fault, given which attributes are
+-- accepted and the headers in each.
+abbrev pub counted_in : (Attribute → Bool) → (Attribute → ℕ) → List (Result Attribute ℕ) → ℕ
+counted_in accepts inside [] = 0
+counted_in accepts inside ((Err seen) ∷ more) = seen
+counted_in accepts inside ((Ok a) ∷ more) =
+    1 + (inside a + (if accepts a then counted_in accepts inside more else 0))
+
+-- the headers examined in a payload
+abbrev pub payload_headers : Contents → List ℕ → ℕ
+payload_headers (NoList place count) p = count p
+payload_headers (ListOf l inside) p =
+    counted_in l.accepts (λ a. payload_headers (inside (masked a.kind)) a.value) (nla_items p)
 
 -- attributes of a family, by what it defines
 abbrev pub listed : {X : Type 0} → Family → (Attribute → Result X DecodeError) →
@@ -78,7 +94,7 @@ each_accepted accepts ps = accepted_under (λ _ a. accepts a) (λ t _. t) (tt {0
 -- a list is accepted if each attribute in it is, and equivalent to one of its type with equivalent
 -- attributes, in order.
 abbrev pub IsContent : Contents → ℕ → (Attribute → Bool) → (Attribute → Attribute → Bool) → Type 0
-IsContent (NoList place) number accepts alike = Unit {0}
+IsContent (NoList place count) number accepts alike = Unit {0}
 IsContent (ListOf l inside) number accepts alike =
     ((a : Attribute) → masked a.kind ≡ number →
     accepts a ≡ each_accepted l.accepts (nla_items a.value))
@@ -91,7 +107,7 @@ IsContent (ListOf l inside) number accepts alike =
 
 -- What payloads contain that are accepted and compared so.
 abbrev pub IsPayloadContent : Contents → (List ℕ → Bool) → (List ℕ → List ℕ → Bool) → Type 0
-IsPayloadContent (NoList place) accepts alike = Unit {0}
+IsPayloadContent (NoList place count) accepts alike = Unit {0}
 IsPayloadContent (ListOf l inside) accepts alike =
     ((p : List ℕ) → accepts p ≡ each_accepted l.accepts (nla_items p))
     × ((p q : List ℕ) → alike p q ≡ alike_pairs l.alike (nla_items p) (nla_items q))

@@ -31,6 +31,7 @@ use Rattle.linkinfo_table.specs.Contents.{
   ListOf,
   NoList,
   contents_either,
+  payload_headers,
 }
 use Rattle.linkinfo_table.specs.FamilyMeaning.{alike_by, meaning_by}
 use Rattle.linkinfo_table.specs.FamilyRows.{FamilyRow}
@@ -60,6 +61,20 @@ either_quarter number headers others here there a = go (masked a.kind == number)
     go : (b : Bool) → 4 * (if b then headers a.value else others a) ≤ length a.value
     go true = here a.value
     go false = there a
+
+-- of a row at the front, and of the others
+pub either_counts : (number : ℕ) (headers : List ℕ → ℕ) (others : Attribute → ℕ) (here : Contents)
+    (there : ℕ → Contents) → ((p : List ℕ) → headers p ≡ payload_headers here p) →
+    ((a : Attribute) → others a ≡ payload_headers (there (masked a.kind)) a.value) →
+    (a : Attribute) →
+    headers_either number headers others a
+    ≡ payload_headers (contents_either number here there (masked a.kind)) a.value
+either_counts number headers others here there first rest a = go (masked a.kind == number)
+  where
+    go : (b : Bool) → (if b then headers a.value else others a)
+        ≡ payload_headers (if b then here else there (masked a.kind)) a.value
+    go true = first a.value
+    go false = rest a
 
 -- no row is one of an empty list
 pub none_owned : {A : Type 0} → false ≡ true → A
@@ -94,7 +109,7 @@ module _ {F Context X : Type 0} (own : family.Ghosts F Context) (c : Context) (n
   row_contained : (contents : Contents) →
       IsPayloadContent contents (λ p. is_ok (held.means p)) held.alike →
       IsContent contents number (λ a. is_ok (meaning_by own c a)) (alike_by own c)
-  row_contained (NoList place) law = tt
+  row_contained (NoList place count) law = tt
   row_contained (ListOf l inside) law = (
     λ a typed.
         row_accepts (own.rows c) a number typed row own.FAMILY own.other ∙ law.0 a.value,

@@ -20,18 +20,28 @@ use Rattle.std.specs.Prelude.{
   Result,
   Ok,
   Err,
+  is_ok,
   length,
   refl,
 }
-use Rattle.std.proofs.Common.{subst, sym}
+use Rattle.std.proofs.Common.{ap, subst, sym, ◌∙◌}
 use Rattle.std.proofs.lemmas.Bool.{eqb-true}
-use Rattle.nla_frame.specs.Attribute.{Attribute}
+use Rattle.nla_frame.specs.Attribute.{Attribute, masked}
 use Rattle.nla_frame.specs.NlaItems.{nla_items}
+use Rattle.nla_frame.specs.declared.error.DecodeError.{DecodeError}
 use Rattle.nla_frame.specs.declared.error.Family.{Family}
 use Rattle.linkinfo_shapes.specs.Shapes.{IsPlain}
 use Rattle.linkinfo_shapes.specs.declared.shape.Shape.{Shape}
 use Rattle.linkinfo_shapes.specs.declared.shape.Shape.TheVariants.{Nested, SelfList, V4List, V6List}
-use Rattle.linkinfo_table.specs.Contents.{Contents, ListOf, NoList, contents_either, single_value}
+use Rattle.linkinfo_table.specs.Contents.{
+  Contents,
+  ListOf,
+  NoList,
+  contents_either,
+  counted_in,
+  payload_headers,
+  single_value,
+}
 use Rattle.linkinfo_table.specs.Difference.{each_error}
 use Rattle.linkinfo_table.specs.FamilyRows.{
   Absent,
@@ -42,6 +52,7 @@ use Rattle.linkinfo_table.specs.FamilyRows.{
   Refuses,
   lookup_of,
 }
+use Rattle.linkinfo_table.specs.Lists.{headers_of, if_read}
 use Rattle.linkinfo_table.specs.Payloads.{IsExact}
 use Rattle.linkinfo_table.specs.declared.lookup.Lookup.{Lookup}
 use Rattle.linkinfo_table.specs.declared.lookup.Lookup.TheVariants as lookup
@@ -70,19 +81,25 @@ abbrev pub address_place : ℕ → List ℕ → ℕ
 address_place width p =
     if each_framed (λ a. length a.value == width) (nla_items p) then 4 + unframed p else 0
 
+-- the headers examined in a list of addresses of this width
+abbrev pub address_count : ℕ → List ℕ → ℕ
+address_count width p = counted_in (λ a. length a.value == width) (λ _. 0) (nla_items p)
+
 -- ---- by shapes
 
-abbrev pub IsListOf : Family → Contents → Type 0
-IsListOf family (ListOf l inside) = l.family ≡ family
-IsListOf family (NoList place) = ⊥
+-- a list of attributes of the family, which a request asks for as a whole, or one attribute after
+-- the other
+abbrev pub IsListOf : Family → Bool → Contents → Type 0
+IsListOf family whole (ListOf l inside) = (l.family ≡ family) × (l.is_whole ≡ whole)
+IsListOf family whole (NoList place count) = ⊥
 
 -- What payloads of a shape contain, in attributes of the family: a list of its own attributes, or
 -- of those of another family, a list of addresses, or a single value.
 abbrev pub ShapeContains : Family → Shape → Contents → Type 0
-ShapeContains family SelfList contents = IsListOf family contents
-ShapeContains family (Nested inner) contents = IsListOf inner contents
-ShapeContains family V4List contents = contents ≡ NoList (address_place 4)
-ShapeContains family V6List contents = contents ≡ NoList (address_place 16)
+ShapeContains family SelfList contents = IsListOf family true contents
+ShapeContains family (Nested inner) contents = IsListOf inner false contents
+ShapeContains family V4List contents = contents ≡ NoList (address_place 4) (address_count 4)
+ShapeContains family V6List contents = contents ≡ NoList (address_place 16) (address_count 16)
 ShapeContains family _ contents = contents ≡ single_value
 
 -- an attribute that is rejected by its type, or has an unknown one, has a single value
@@ -144,3 +161,31 @@ pub both_contain : {F : Type 0} (family : Family) (r : FamilyRow F) (owned other
     LookupContains family (lookup_of r) (if owned then first else second)
 both_contain family r true others first second here there flat = here (λ e. absurd cc)
 both_contain family r false others first second here there flat = there flat
+
+-- ---- headers
+
+-- of the rows of one list of rows, and of another
+pub both_count : (owned : Bool) (x y : ℕ) (first second : Contents) (p : List ℕ) →
+    x ≡ payload_headers first p → y ≡ payload_headers second p →
+    (if owned then x else y) ≡ payload_headers (if owned then first else second) p
+both_count true x y first second p here there = here
+both_count false x y first second p here there = there
+
+-- of the attributes in a list of a family
+pub list_counts : {X : Type 0} (m : Attribute → Result X DecodeError) (h : Attribute → ℕ)
+    (contents : ℕ → Contents) →
+    ((a : Attribute) → h a ≡ payload_headers (contents (masked a.kind)) a.value) →
+    (ps : List (Result Attribute ℕ)) →
+    headers_of m h ps
+    ≡ counted_in (λ a. is_ok (m a)) (λ a. payload_headers (contents (masked a.kind)) a.value) ps
+list_counts m h contents each [] = refl
+list_counts m h contents each ((Err n) ∷ more) = refl
+list_counts {X = X} m h contents each ((Ok a) ∷ more) =
+    ap (λ (n : ℕ). 1 + (n + if_read (m a) (headers_of m h more))) (each a)
+    ∙ ap (λ (n : ℕ). 1 + (payload_headers (contents (masked a.kind)) a.value + n))
+    (read (m a) ∙ ap (λ (n : ℕ). if is_ok (m a) then n else 0) (list_counts m h contents each more))
+  where
+    read : (r : Result X DecodeError) →
+        if_read r (headers_of m h more) ≡ (if is_ok r then headers_of m h more else 0)
+    read (Ok x) = refl
+    read (Err e) = refl

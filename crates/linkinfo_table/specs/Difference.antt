@@ -112,7 +112,7 @@ payloads_difference family pair s t =
 -- The difference of two attributes of one type in a family: of their lists if they contain lists,
 -- otherwise of the whole, if they are not equivalent.
 abbrev pub payload_difference : Contents → Family → Bool → PlacedNla → PlacedNla → Option Difference
-payload_difference (NoList place) family alike p q = pair_difference family alike p q
+payload_difference (NoList place count) family alike p q = pair_difference family alike p q
 payload_difference (ListOf l inside) family alike p q =
     option_map (inner_difference p q)
     (payloads_difference l.family (λ x y.
@@ -153,7 +153,7 @@ each_error inside s = error_offset (λ _ a. inside a) stays tt 0 (nla_items s)
 -- The offset of an attribute's error from its header, by its payload: in its list if it contains
 -- one, otherwise the place that its contents say, if it is not accepted.
 abbrev pub payload_error : Contents → Bool → List ℕ → Option ℕ
-payload_error (NoList place) accepted p = own_error accepted (place p)
+payload_error (NoList place count) accepted p = own_error accepted (place p)
 payload_error (ListOf l inside) accepted p =
     option_map (λ k. 4 + k)
     (each_error (λ a. payload_error (inside (masked a.kind)) (l.accepts a) a.value) p)

@@ -9,6 +9,7 @@ pub mod Contents
 pub mod CustomRows
 pub mod Described
 pub mod Difference
+pub mod EachAttribute
 pub mod Equal
 pub mod ErrorMemory
 pub mod ErrorNames

@@ -131,7 +131,7 @@ attributes_unmet l unmet have want =
 -- What of an attribute another one of its type in a family does not meet: of its list if it
 -- contains one, otherwise all of it, if it is not met.
 abbrev pub payload_unmet : Contents → Family → Bool → PlacedNla → PlacedNla → Option Unmet
-payload_unmet (NoList place) family met have want = item_unmet family met have want
+payload_unmet (NoList place count) family met have want = item_unmet family met have want
 payload_unmet (ListOf l inside) family met have want =
     if l.is_whole
     then item_unmet family met have want

@@ -2,7 +2,7 @@
 
 ghost use Rattle.std.specs.Prelude.{◌≡◌, ◌*◌, ◌≤◌, ◌||◌, ◌++◌};
 ghost use Rattle.nla_frame.specs.Attribute.{masked};
-ghost use Rattle.linkinfo_table.specs.Described.{both_contain};
+ghost use Rattle.linkinfo_table.specs.Described.{both_contain, both_count};
 ghost use Rattle.linkinfo_table.specs.BothRows.{
   both_contained,
   both_quarter,
@@ -50,6 +50,11 @@ impl<F: RowFamily, A: CustomRows<F>, B: CustomRows<F>> CustomRows<F> for Both<A,
     ghost described = { λ c n.
         both_contain F.RowFamily.FAMILY (F.rows c n) (A.owned n) (B.owned n) (A.contents n)
         (B.contents n) (A.described c n) (B.described c n) };
+
+    ghost counted = { λ a.
+        let n = masked a.kind in
+        both_count (A.owned n) (A.headers a) (B.headers a) (A.contents n) (B.contents n) a.value
+        (A.counted a) (B.counted a) };
 
     ghost quarter = { λ a.
         both_quarter A.owned A.headers B.headers A.quarter B.quarter a };

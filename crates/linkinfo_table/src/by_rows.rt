@@ -25,7 +25,7 @@
 //! A row with a payload that the family reads and writes itself has the word `custom` as its shape.
 //! After the rows, `; else Ipv4Flags` names variants that the family reads and writes before it
 //! consults the list. Types and functions in the list are resolved where the family expands it:
-//! `Flags`, and `Text` for a name, must be in scope there.
+//! `Flags`, `Text` for a name, and `Bytes` for opaque bytes, must be in scope there.
 
 /// Stores the decoded value of an attribute, by the rows: `rows!(store_by_rows(slot, alloc,
 /// decoded))`.
@@ -64,6 +64,9 @@ macro_rules! store_row {
     };
     ($slot:ident, $alloc:ident, $datum:ident, name, $family:ident $variant:ident) => {
         $slot.store($family::$variant(Text::copy_of($alloc, $datum.text_or_empty())?))
+    };
+    ($slot:ident, $alloc:ident, $datum:ident, raw, $family:ident $variant:ident) => {
+        $slot.store($family::$variant(Bytes::copy_of($alloc, $datum.bytes_or_empty())?))
     };
     (
         $slot:ident, $alloc:ident, $datum:ident, empty_or_byte,
@@ -208,6 +211,9 @@ macro_rules! encodable_row {
     ($number:literal, name, $x:ident) => {
         $crate::encodables::name($number, $x.as_str())
     };
+    ($number:literal, raw, $x:ident) => {
+        $crate::encodables::raw($number, $x.as_slice())
+    };
     ($number:literal, $shape:ident, $x:ident) => {
         $crate::encodables::$shape($number, *$x)
     };
@@ -257,6 +263,9 @@ macro_rules! clone_row {
         $family::$variant
     };
     (name, $family:ident $variant:ident, $x:ident) => {
+        $family::$variant($x.clone()?)
+    };
+    (raw, $family:ident $variant:ident, $x:ident) => {
         $family::$variant($x.clone()?)
     };
     ($shape:ident, $family:ident $variant:ident, $x:ident) => {

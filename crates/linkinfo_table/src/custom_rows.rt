@@ -34,10 +34,12 @@ ghost use Rattle.linkinfo_table.specs.Contents.{
   Contents,
   IsContent,
   contents_either,
+  payload_headers,
   single_value,
 };
 ghost use Rattle.linkinfo_table.specs.CustomRows.{
   either_contained,
+  either_counts,
   either_quarter,
   headers_either,
   none_owned,
@@ -282,6 +284,9 @@ pub trait CustomRows<F: RowFamily> {
     ghost described: { (c : F.Context) (n : ℕ) → (owned n ≡ false → IsFlat (F.rows c n)) →
         LookupContains F.FAMILY (lookup_of (F.rows c n)) (contents n) };
 
+    ghost counted: { (a : Attribute) →
+        headers a ≡ payload_headers (contents (masked a.kind)) a.value };
+
     ghost quarter: { (a : Attribute) → 4 * headers a ≤ length a.value };
 }
 
@@ -301,6 +306,8 @@ impl<F: RowFamily> CustomRows<F> for () {
     ghost contained = { λ _ _. tt };
 
     ghost described = { λ c n flat. flat_contains F.RowFamily.FAMILY (F.rows c n) (flat refl) };
+
+    ghost counted = { λ _. refl };
 
     ghost quarter = { none_inside };
 
@@ -426,6 +433,10 @@ impl<F: RowFamily, R: PayloadRow<F>, Rest: CustomRows<F>> CustomRows<F> for (R, 
         either_contains F.RowFamily.FAMILY (F.rows c) R.NUMBER R.Payload.shape R.Payload.contents
         Rest.owned Rest.contents (R.row_is c).looked_up
         (R.Payload.described F.RowFamily.FAMILY) n (Rest.described c n) };
+
+    ghost counted = { λ a.
+        either_counts R.NUMBER R.Payload.headers Rest.headers R.Payload.contents Rest.contents
+        R.Payload.counted Rest.counted a };
 
     ghost quarter = { λ a.
         either_quarter R.NUMBER R.Payload.headers Rest.headers

@@ -106,6 +106,14 @@ pub fn name<'a>(kind: u16, text: &'a str) -> Encodable<'a>
     Encodable::Typed(kind, Shape::Name, Datum::Text(text))
 }
 
+/// Opaque bytes.
+#[inline(always)]
+pub fn raw<'a>(kind: u16, bytes: &'a [u8]) -> Encodable<'a>
+    ensures { Shows result (typed kind shape.Raw bytes.now) false }
+{
+    Encodable::Typed(kind, Shape::Raw, Datum::Bytes(bytes))
+}
+
 /// An IPv4 address.
 #[inline(always)]
 pub fn v4<'a>(kind: u16, address: Ipv4Addr) -> Encodable<'a>

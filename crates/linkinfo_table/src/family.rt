@@ -40,7 +40,7 @@ ghost use Rattle.nla_frame.specs.declared.error.DecodeError.{DecodeError};
 ghost use Rattle.nla_frame.specs.declared.error.Family.{Family};
 ghost use Rattle.nla_frame.specs.Writing.{WritesAttribute};
 ghost use Rattle.linkinfo_table.specs.Calls.{Checks, Compares, Pushes, Reads};
-ghost use Rattle.linkinfo_table.specs.Contents.{Contents};
+ghost use Rattle.linkinfo_table.specs.Contents.{Contents, payload_headers};
 ghost use Rattle.linkinfo_table.specs.Described.{LookupContains};
 ghost use Rattle.linkinfo_table.specs.Difference.{
   IsWithin,
@@ -238,6 +238,9 @@ pub trait LinkFamily: Nla + Sized + Drop {
 
     ghost described: { (c : Self.Context) (n : ℕ) →
         LookupContains FAMILY (lookup c n) (contents c n) };
+
+    ghost counted: { (c : Self.Context) (a : Attribute) →
+        headers c a ≡ payload_headers (contents c (masked a.kind)) a.value };
 
     ghost error_certain: { (c : Self.Context) (a : Attribute) (e : DecodeError) →
         HoldsNone (lookup c (masked a.kind)) → meaning c a ≡ Err e → needs_memory c a ≡ false };

@@ -22,6 +22,7 @@ ghost use Rattle.nla_frame.specs.NlaItems.{nla_items};
 ghost use Rattle.nla_frame.specs.declared.default_nla.DefaultNla.{DefaultNla};
 ghost use Rattle.nla_frame.specs.declared.error.DecodeError.{DecodeError};
 ghost use Rattle.linkinfo_table.specs.Conditions.{opaque_conditions};
+ghost use Rattle.linkinfo_table.specs.Contents.{payload_headers};
 ghost use Rattle.linkinfo_table.specs.Described.{LookupContains};
 ghost use Rattle.linkinfo_table.specs.FamilyRows.{SameDecoded, SameEncodable};
 ghost use Rattle.linkinfo_table.specs.Named.{EachNamed};
@@ -115,6 +116,8 @@ pub fn looked_up<F: LinkFamily>(ctx: F::Context)
         (e.family ≡ F.FAMILY) × (e.kind ≡ masked a.kind) }
     ensures contains { (number : ℕ) →
         LookupContains F.FAMILY (F.lookup ctx number) (F.contents ctx number) }
+    ensures counts { (a : Attribute) →
+        F.headers ctx a ≡ payload_headers (F.contents ctx (masked a.kind)) a.value }
 {}
 
 /// Each error of an attribute, of a list of attributes and of a first attribute either is that of a

@@ -4,6 +4,7 @@ ghost use Rattle.std.specs.Prelude.{◌∷◌, map, refl};
 ghost use Rattle.nla_frame.specs.Attribute.{list_string};
 ghost use Rattle.nla_frame.specs.NlaItems.{nla_items};
 ghost use Rattle.linkinfo_table.specs.Contents.{ListOf, listed};
+ghost use Rattle.linkinfo_table.specs.Described.{list_counts};
 ghost use Rattle.linkinfo_table.specs.Lists.{AllWell, alike_pairs, headers_of, memory_of, values};
 ghost use Rattle.linkinfo_table.specs.ListPayload.{list_contained, list_is_payload};
 ghost use Rattle.linkinfo_table.specs.SelfList.{inside};
@@ -48,7 +49,10 @@ impl<F: LinkFamily<Context = ()> + Eq + ExactEq> LinkPayload for Nlas<F> {
         F.alike F.needs_memory F.attribute F.well F.contents F.LinkFamily.IS_SET
         (F.LinkFamily.lawful tt) };
 
-    ghost described = { λ _. refl };
+    ghost described = { λ _. (refl, refl) };
+
+    ghost counted = { λ p.
+        list_counts (F.meaning tt) (F.headers tt) (F.contents tt) (F.counted tt) (nla_items p) };
 
     ghost lawful = { list_is_payload F.LinkFamily.FAMILY F.LinkFamily.inside F.keeping F.lookup
         F.meaning F.headers F.alike F.needs_memory F.attribute F.well F.contents

@@ -23,7 +23,7 @@ ghost use Rattle.nla_frame.specs.Canonical.{bytes_for};
 ghost use Rattle.nla_frame.specs.Writing.{Writes};
 ghost use Rattle.linkinfo_table.specs.Calls.{Checks, Compares, Reads};
 ghost use Rattle.linkinfo_table.specs.Codecs.{PayloadError};
-ghost use Rattle.linkinfo_table.specs.Contents.{Contents, IsPayloadContent};
+ghost use Rattle.linkinfo_table.specs.Contents.{Contents, IsPayloadContent, payload_headers};
 ghost use Rattle.linkinfo_table.specs.Described.{ShapeContains};
 ghost use Rattle.linkinfo_table.specs.Difference.{
   IsWithin,
@@ -192,6 +192,9 @@ pub trait LinkPayload: Sized + Eq + ExactEq + Drop {
 
     /// What payloads contain is what their shape says.
     ghost described: { (family : Family) → ShapeContains family shape contents };
+
+    /// The headers in a payload are those in what it contains.
+    ghost counted: { (p : List ℕ) → headers p ≡ payload_headers contents p };
 
     ghost lawful: { IsPayload shape inside
         (codec_with means canon holds alike headers needs_memory) };

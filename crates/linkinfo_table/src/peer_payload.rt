@@ -39,6 +39,8 @@ impl<P: LinkPeer> LinkPayload for P {
 
     ghost described = { λ _. refl };
 
+    ghost counted = { λ _. refl };
+
     ghost lawful = { peer_is_payload P.LinkPeer.meaning P.LinkPeer.alike P.LinkPeer.canonical
         P.LinkPeer.well P.LinkPeer.lawful };
 

@@ -83,6 +83,8 @@ impl<F: TableFamily> LinkFamily for F {
 
     ghost described = { λ c n. F.Custom.described c n (F.flat_elsewhere c n) };
 
+    ghost counted = { λ _ a. F.Custom.counted a };
+
     ghost error_certain = { λ c.
         (table_lawful F.other F.canonical F.attribute F.written (F.rows c) F.Custom.headers
         F.Custom.inside (each_typed (F.rows c) F.Custom.inside F.Custom.owned (F.Custom.typed c)

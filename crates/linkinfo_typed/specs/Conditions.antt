@@ -2,7 +2,27 @@
 -- a number, a list or an opaque attribute.
 -- Begin: written by tables/generate from tables/families.
 pub use Rattle.linkinfo_typed.specs.BondConditions.{bond_conditions, bond_stated}
+pub use Rattle.linkinfo_typed.specs.BondAdInfoConditions.{
+  bond_ad_info_conditions,
+  bond_ad_info_stated,
+}
+pub use Rattle.linkinfo_typed.specs.BondPortConditions.{bond_port_conditions, bond_port_stated}
+pub use Rattle.linkinfo_typed.specs.BridgeConditions.{bridge_conditions, bridge_stated}
+pub use Rattle.linkinfo_typed.specs.BridgePortConditions.{
+  bridge_port_conditions,
+  bridge_port_stated,
+}
+pub use Rattle.linkinfo_typed.specs.BridgeQuerierStateConditions.{
+  bridge_querier_state_conditions,
+  bridge_querier_state_stated,
+}
 pub use Rattle.linkinfo_typed.specs.CanConditions.{can_conditions, can_stated}
+pub use Rattle.linkinfo_typed.specs.CanCtrlModeExtConditions.{
+  can_ctrl_mode_ext_conditions,
+  can_ctrl_mode_ext_stated,
+}
+pub use Rattle.linkinfo_typed.specs.CanPwmConditions.{can_pwm_conditions, can_pwm_stated}
+pub use Rattle.linkinfo_typed.specs.CanTdcConditions.{can_tdc_conditions, can_tdc_stated}
 pub use Rattle.linkinfo_typed.specs.DsaConditions.{dsa_conditions, dsa_stated}
 pub use Rattle.linkinfo_typed.specs.HsrConditions.{hsr_conditions, hsr_stated}
 pub use Rattle.linkinfo_typed.specs.QosConditions.{

@@ -1,8 +1,24 @@
 -- Begin: written by tables/generate from tables/families.
 pub mod Bond
 pub mod BondConditions
+pub mod BondAdInfo
+pub mod BondAdInfoConditions
+pub mod BondPort
+pub mod BondPortConditions
+pub mod Bridge
+pub mod BridgeConditions
+pub mod BridgePort
+pub mod BridgePortConditions
+pub mod BridgeQuerierState
+pub mod BridgeQuerierStateConditions
 pub mod Can
 pub mod CanConditions
+pub mod CanCtrlModeExt
+pub mod CanCtrlModeExtConditions
+pub mod CanPwm
+pub mod CanPwmConditions
+pub mod CanTdc
+pub mod CanTdcConditions
 pub mod Dsa
 pub mod DsaConditions
 pub mod Hsr

@@ -4,15 +4,17 @@
 ghost use Rattle.linkinfo_typed.specs.Bond.{
   bond_attribute,
   bond_elsewhere,
-  bond_flat,
+  bond_flat_elsewhere,
   bond_is_custom,
   bond_owes,
   bond_rows,
   is_arp_ip_target,
+  is_ad_info,
   is_ns_ip6_target,
 };
 ghost use Rattle.linkinfo_typed.specs.declared.bond.InfoBond.TheVariants.{
   ArpIpTarget,
+  AdInfo,
   NsIp6Target,
   Other,
 };
@@ -22,13 +24,18 @@ ghost use Rattle.linkinfo_table.specs.TypedRows.{has_payload};
 ghost use Rattle.nla_frame.specs.declared.error.Family.TheVariants as family;
 ghost use Rattle.std.specs.Prelude.{false, true, refl};
 
+use crate::bond_ad_info::BondAdInfo;
+use linkinfo_numbers::{
+    BondAdSelect, BondAllPortActive, BondArpAllTargets, BondArpValidate, BondFailOverMac,
+    BondLacpRate, BondMode, BondPrimaryReselect, BondXmitHashPolicy, OnOff,
+};
 use linkinfo_payloads::Addresses;
 use linkinfo_table::{
-    CustomRows, Decoded, Encodable, LinkFamily, Lookup, PayloadRow, RowFamily, Slot, TableFamily,
-    encodable_by_rows, store_by_rows, typed_lookup,
+    Both, CustomRows, Decoded, Encodable, LinkFamily, Lookup, PayloadRow, RowFamily, Slot,
+    TableFamily, encodable_by_rows, store_by_rows, typed_lookup,
 };
 use nla_frame::{
-    DecodeError, DefaultNla, ExactEq, Family, HeaderCount, Nla, NlaBuffer, Parseable, laws,
+    DecodeError, DefaultNla, ExactEq, Family, HeaderCount, Nla, NlaBuffer, Nlas, Parseable, laws,
 };
 use std::alloc::{AllocError, Global};
 use std::marker::PhantomData;
@@ -38,7 +45,7 @@ use std::net::{Ipv4Addr, Ipv6Addr};
 #[derive(Debug, PartialEq, Eq, Clone, Drop)]
 pub enum InfoBond {
     /// Mode (`IFLA_BOND_MODE`), one byte.
-    Mode(u8),
+    Mode(BondMode),
     /// Index of the active port (`IFLA_BOND_ACTIVE_SLAVE`), little-endian.
     ActivePort(u32),
     /// How often the ports are checked by MII, in milliseconds (`IFLA_BOND_MIIMON`), little-endian.
@@ -50,7 +57,7 @@ pub enum InfoBond {
     DownDelay(u32),
     /// Whether the ports are checked by their carrier; obsolete (`IFLA_BOND_USE_CARRIER`), one
     /// byte.
-    UseCarrier(u8),
+    UseCarrier(OnOff),
     /// How often targets are checked by ARP, in milliseconds (`IFLA_BOND_ARP_INTERVAL`),
     /// little-endian.
     ArpInterval(u32),
@@ -58,17 +65,17 @@ pub enum InfoBond {
     /// a nested list of addresses.
     ArpIpTarget(Addresses<Ipv4Addr>),
     /// Which ports have their ARP packets validated (`IFLA_BOND_ARP_VALIDATE`), little-endian.
-    ArpValidate(u32),
+    ArpValidate(BondArpValidate),
     /// Whether one target or all must be up (`IFLA_BOND_ARP_ALL_TARGETS`), little-endian.
-    ArpAllTargets(u32),
+    ArpAllTargets(BondArpAllTargets),
     /// Index of the primary port (`IFLA_BOND_PRIMARY`), little-endian.
     Primary(u32),
     /// When the primary port becomes active again (`IFLA_BOND_PRIMARY_RESELECT`), one byte.
-    PrimaryReselect(u8),
+    PrimaryReselect(BondPrimaryReselect),
     /// Which hardware addresses the ports have (`IFLA_BOND_FAIL_OVER_MAC`), one byte.
-    FailOverMac(u8),
+    FailOverMac(BondFailOverMac),
     /// What a port is chosen by for a packet (`IFLA_BOND_XMIT_HASH_POLICY`), one byte.
-    XmitHashPolicy(u8),
+    XmitHashPolicy(BondXmitHashPolicy),
     /// Number of IGMP reports after a change of the active port (`IFLA_BOND_RESEND_IGMP`),
     /// little-endian.
     ResendIgmp(u32),
@@ -77,7 +84,7 @@ pub enum InfoBond {
     NumPeerNotif(u8),
     /// Whether frames that inactive ports receive are kept (`IFLA_BOND_ALL_SLAVES_ACTIVE`), one
     /// byte.
-    AllPortsActive(u8),
+    AllPortsActive(BondAllPortActive),
     /// Number of active ports that the bond needs (`IFLA_BOND_MIN_LINKS`), little-endian.
     MinLinks(u32),
     /// How often learning packets are sent, in seconds (`IFLA_BOND_LP_INTERVAL`), little-endian.
@@ -86,9 +93,11 @@ pub enum InfoBond {
     /// little-endian.
     PacketsPerPort(u32),
     /// How often the partner is to send LACP packets (`IFLA_BOND_AD_LACP_RATE`), one byte.
-    AdLacpRate(u8),
+    AdLacpRate(BondLacpRate),
     /// What an aggregator is chosen by (`IFLA_BOND_AD_SELECT`), one byte.
-    AdSelect(u8),
+    AdSelect(BondAdSelect),
+    /// Active aggregator of LACP (`IFLA_BOND_AD_INFO`), a nested list.
+    AdInfo(Nlas<BondAdInfo>),
     /// Priority of the system in LACP (`IFLA_BOND_AD_ACTOR_SYS_PRIO`), little-endian.
     AdActorSysPrio(u16),
     /// Part of the key of ports that the user sets (`IFLA_BOND_AD_USER_PORT_KEY`), little-endian.
@@ -96,11 +105,11 @@ pub enum InfoBond {
     /// Hardware address of the system in LACP (`IFLA_BOND_AD_ACTOR_SYSTEM`), six bytes.
     AdActorSystem([u8; 6]),
     /// Whether ports are chosen by their load (`IFLA_BOND_TLB_DYNAMIC_LB`), one byte.
-    TlbDynamicLb(u8),
+    TlbDynamicLb(OnOff),
     /// Delay between notifications, in milliseconds (`IFLA_BOND_PEER_NOTIF_DELAY`), little-endian.
     PeerNotifDelay(u32),
     /// Whether LACP packets are sent unasked (`IFLA_BOND_AD_LACP_ACTIVE`), one byte.
-    AdLacpActive(u8),
+    AdLacpActive(OnOff),
     /// Number of missed replies after which a port is down (`IFLA_BOND_MISSED_MAX`), one byte.
     MissedMax(u8),
     /// Addresses that are checked by neighbor solicitations, of which the kernel takes 16
@@ -108,9 +117,11 @@ pub enum InfoBond {
     NsIp6Target(Addresses<Ipv6Addr>),
     /// Whether collecting and distributing are controlled as one (`IFLA_BOND_COUPLED_CONTROL`), one
     /// byte.
-    CoupledControl(u8),
+    CoupledControl(OnOff),
     /// Whether neighbor requests are sent on all ports (`IFLA_BOND_BROADCAST_NEIGH`), one byte.
-    BroadcastNeigh(u8),
+    BroadcastNeigh(OnOff),
+    /// Whether a port without a partner of LACP is left unused (`IFLA_BOND_LACP_STRICT`), one byte.
+    LacpStrict(OnOff),
     /// An opaque attribute, of a type that has no variant here, kept verbatim.
     Other(DefaultNla),
 }
@@ -118,38 +129,40 @@ pub enum InfoBond {
 macro_rules! rows {
     ($body:ident $given:tt) => {
         $body! { InfoBond $given;
-            (1, u8, Mode),
+            (1, u8, Mode as BondMode),
             (2, le32, ActivePort),
             (3, le32, MiiMon),
             (4, le32, UpDelay),
             (5, le32, DownDelay),
-            (6, u8, UseCarrier),
+            (6, u8, UseCarrier as OnOff),
             (7, le32, ArpInterval),
             (8, custom, ArpIpTarget),
-            (9, le32, ArpValidate),
-            (10, le32, ArpAllTargets),
+            (9, le32, ArpValidate as BondArpValidate),
+            (10, le32, ArpAllTargets as BondArpAllTargets),
             (11, le32, Primary),
-            (12, u8, PrimaryReselect),
-            (13, u8, FailOverMac),
-            (14, u8, XmitHashPolicy),
+            (12, u8, PrimaryReselect as BondPrimaryReselect),
+            (13, u8, FailOverMac as BondFailOverMac),
+            (14, u8, XmitHashPolicy as BondXmitHashPolicy),
             (15, le32, ResendIgmp),
             (16, u8, NumPeerNotif),
-            (17, u8, AllPortsActive),
+            (17, u8, AllPortsActive as BondAllPortActive),
             (18, le32, MinLinks),
             (19, le32, LpInterval),
             (20, le32, PacketsPerPort),
-            (21, u8, AdLacpRate),
-            (22, u8, AdSelect),
+            (21, u8, AdLacpRate as BondLacpRate),
+            (22, u8, AdSelect as BondAdSelect),
+            (23, custom, AdInfo),
             (24, le16, AdActorSysPrio),
             (25, le16, AdUserPortKey),
             (26, mac, AdActorSystem),
-            (27, u8, TlbDynamicLb),
+            (27, u8, TlbDynamicLb as OnOff),
             (28, le32, PeerNotifDelay),
-            (29, u8, AdLacpActive),
+            (29, u8, AdLacpActive as OnOff),
             (30, u8, MissedMax),
             (31, custom, NsIp6Target),
-            (32, u8, CoupledControl),
-            (33, u8, BroadcastNeigh),
+            (32, u8, CoupledControl as OnOff),
+            (33, u8, BroadcastNeigh as OnOff),
+            (34, u8, LacpStrict as OnOff),
         }
     };
 }
@@ -233,6 +246,44 @@ impl<T> PayloadRow<InfoBond> for ArpIpTargetRow<T> {
     }
 }
 
+/// The row of `IFLA_BOND_AD_INFO`. Wherever it is named, `T` is `()`.
+pub struct AdInfoRow<T> {
+    of: PhantomData<T>,
+}
+
+impl<T> PayloadRow<InfoBond> for AdInfoRow<T> {
+    type Payload = Nlas<BondAdInfo>;
+
+    const NUMBER: u16 = 23;
+
+    ghost NUMBER = { 23 };
+
+    const NESTED: bool = false;
+
+    ghost NESTED = { false };
+
+    ghost label = { λ payload. AdInfo payload };
+
+    ghost is_held = { is_ad_info };
+
+    ghost row_is = { λ _. has_payload };
+
+    ghost suits = { refl };
+
+    ghost written = { λ _. refl };
+
+    fn wrap(payload: Nlas<BondAdInfo>) -> InfoBond {
+        InfoBond::AdInfo(payload)
+    }
+
+    fn payload(value: &InfoBond) -> Option<&Nlas<BondAdInfo>> {
+        match value {
+            InfoBond::AdInfo(payload) => Some(payload),
+            _ => None,
+        }
+    }
+}
+
 /// The row of `IFLA_BOND_NS_IP6_TARGET`. Wherever it is named, `T` is `()`.
 pub struct NsIp6TargetRow<T> {
     of: PhantomData<T>,
@@ -272,13 +323,13 @@ impl<T> PayloadRow<InfoBond> for NsIp6TargetRow<T> {
 }
 
 impl TableFamily for InfoBond {
-    type Custom = (ArpIpTargetRow<()>, (NsIp6TargetRow<()>, ()));
+    type Custom = Both<(ArpIpTargetRow<()>, ()), (AdInfoRow<()>, (NsIp6TargetRow<()>, ()))>;
 
     const IS_SET: bool = false;
 
     ghost IS_SET = { false };
 
-    ghost flat_elsewhere = { λ _ n. bond_flat n };
+    ghost flat_elsewhere = { λ _ n. bond_flat_elsewhere n };
 
     ghost plain_elsewhere = { bond_elsewhere };
 
@@ -310,9 +361,10 @@ impl Nla for InfoBond {
     }
 }
 
-/// Reads the attribute. A payload of invalid length is rejected as `(Bond, type, Length)`. So is a
-/// list of addresses, in which an attribute of another length has the error `(Bond, type, Length)`
-/// with the type of the list.
+/// Reads the attribute. A payload of invalid length is rejected as `(Bond, type, Length)`. A list
+/// is rejected with the first error in it: that of an attribute inside, or `(Frame, 0, Header)`. So
+/// is a list of addresses, in which an attribute of another length has the error `(Bond, type,
+/// Length)` with the type of the list.
 impl<'a> Parseable<NlaBuffer<'a>> for InfoBond {
     ghost meaning = { λ nla.
         meaning_in family.Bond (λ d. Other d) (λ n. row_of (bond_rows n)) nla };
@@ -330,8 +382,41 @@ impl ExactEq for InfoBond {
     ghost use Rattle.std.proofs.lemmas.Bool.Decides.{Decides-eqb};
     ghost use Rattle.nla_frame.specs.Derived.{derived_decides, one_field};
     ghost use Rattle.nla_frame.specs.Pairs.{◌&◌};
+    ghost use Rattle.linkinfo_numbers.specs.contracts.bond.BondModeExactEq.TheImpl.Laws.{
+      exact-law as mode_exact,
+    };
+    ghost use Rattle.linkinfo_numbers.specs.contracts.bond.OnOffExactEq.TheImpl.Laws.{
+      exact-law as switch_exact,
+    };
     ghost use Rattle.nla_frame.specs.contracts.exact_eq.Ipv4AddrExactEq.TheImpl.Laws.{
       exact-law as ipv4_list_exact,
+    };
+    ghost use Rattle.linkinfo_numbers.specs.contracts.bond.BondArpValidateExactEq.TheImpl.Laws.{
+      exact-law as validate_exact,
+    };
+    ghost use Rattle.linkinfo_numbers.specs.contracts.bond.BondArpAllTargetsExactEq.TheImpl.Laws.{
+      exact-law as targets_exact,
+    };
+    ghost use Rattle.linkinfo_numbers.specs.contracts.bond.BondPrimaryReselectExactEq.TheImpl.Laws.{
+      exact-law as reselect_exact,
+    };
+    ghost use Rattle.linkinfo_numbers.specs.contracts.bond.BondFailOverMacExactEq.TheImpl.Laws.{
+      exact-law as fail_over_exact,
+    };
+    ghost use Rattle.linkinfo_numbers.specs.contracts.bond.BondXmitHashPolicyExactEq.TheImpl.Laws.{
+      exact-law as policy_exact,
+    };
+    ghost use Rattle.linkinfo_numbers.specs.contracts.bond.BondAllPortActiveExactEq.TheImpl.Laws.{
+      exact-law as all_active_exact,
+    };
+    ghost use Rattle.linkinfo_numbers.specs.contracts.bond.BondLacpRateExactEq.TheImpl.Laws.{
+      exact-law as rate_exact,
+    };
+    ghost use Rattle.linkinfo_numbers.specs.contracts.bond.BondAdSelectExactEq.TheImpl.Laws.{
+      exact-law as select_exact,
+    };
+    ghost use Rattle.linkinfo_typed.specs.contracts.bond_ad_info.BondAdInfoExactEq.TheImpl.Laws.{
+      exact-law as bond_ad_info_exact,
     };
     ghost use Rattle.nla_frame.specs.contracts.exact_eq.ArrayU86ExactEq.TheImpl.Laws.{
       exact-law as mac_exact,
@@ -344,44 +429,57 @@ impl ExactEq for InfoBond {
     };
     ghost use Rattle.linkinfo_typed.specs.contracts.bond.InfoBond.{enum};
 
-    ghost exact = { let number = one_field Decides-eqb in
+    ghost exact = { let mode = one_field mode_exact in
+        let number = one_field Decides-eqb in
+        let switch = one_field switch_exact in
         let ipv4_list = one_field (pointwise_decides ipv4_list_exact) in
+        let validate = one_field validate_exact in
+        let targets = one_field targets_exact in
+        let reselect = one_field reselect_exact in
+        let fail_over = one_field fail_over_exact in
+        let policy = one_field policy_exact in
+        let all_active = one_field all_active_exact in
+        let rate = one_field rate_exact in
+        let select = one_field select_exact in
+        let bond_ad_info = one_field (pointwise_decides bond_ad_info_exact) in
         let mac = one_field mac_exact in
         let ipv6_list = one_field (pointwise_decides ipv6_list_exact) in
         let kept = one_field kept_exact in
         derived_decides enum _
-        (number
+        (mode
         & number
         & number
         & number
         & number
-        & number
+        & switch
         & number
         & ipv4_list
+        & validate
+        & targets
+        & number
+        & reselect
+        & fail_over
+        & policy
+        & number
+        & number
+        & all_active
         & number
         & number
         & number
-        & number
-        & number
-        & number
-        & number
-        & number
-        & number
-        & number
-        & number
-        & number
-        & number
-        & number
+        & rate
+        & select
+        & bond_ad_info
         & number
         & number
         & mac
+        & switch
         & number
-        & number
-        & number
+        & switch
         & number
         & ipv6_list
-        & number
-        & number
+        & switch
+        & switch
+        & switch
         & kept
         & tt) };
 }

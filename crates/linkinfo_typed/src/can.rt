@@ -2,6 +2,7 @@
 //! CAN devices.
 
 ghost use Rattle.linkinfo_typed.specs.Can.{
+  flags_under_mask,
   can_attribute,
   can_elsewhere,
   can_flat_elsewhere,
@@ -16,8 +17,13 @@ ghost use Rattle.linkinfo_typed.specs.Can.{
   is_termination_const,
   is_bit_rate_const,
   is_data_bit_rate_const,
+  is_tdc,
+  is_ctrl_mode_ext,
   is_xl_data_bit_timing,
+  is_xl_data_bit_timing_const,
   is_xl_data_bit_rate_const,
+  is_xl_tdc,
+  is_xl_pwm,
 };
 ghost use Rattle.linkinfo_typed.specs.declared.can.InfoCan.TheVariants.{
   BitTiming,
@@ -28,23 +34,33 @@ ghost use Rattle.linkinfo_typed.specs.declared.can.InfoCan.TheVariants.{
   TerminationConst,
   BitRateConst,
   DataBitRateConst,
+  Tdc,
+  CtrlModeExt,
   XlDataBitTiming,
+  XlDataBitTimingConst,
   XlDataBitRateConst,
+  XlTdc,
+  XlPwm,
   Other,
 };
 ghost use Rattle.linkinfo_table.specs.FamilyRows.{row_of};
 ghost use Rattle.linkinfo_table.specs.Rows.{meaning_in, memory_in};
 ghost use Rattle.linkinfo_table.specs.TypedRows.{has_payload};
 ghost use Rattle.nla_frame.specs.declared.error.Family.TheVariants as family;
-ghost use Rattle.std.specs.Prelude.{false, refl};
+ghost use Rattle.std.specs.Prelude.{◌≡◌, false, true, refl};
 
+use crate::can_ctrl_mode_ext::CanCtrlModeExt;
+use crate::can_pwm::CanPwm;
+use crate::can_tdc::CanTdc;
+use bitflags::Flags;
+use linkinfo_numbers::{CanCtrlModeFlags, CanState};
 use linkinfo_payloads::{CanBerrCounter, CanBitTiming, CanBitTimingConst, Numbers};
 use linkinfo_table::{
     Both, CustomRows, Decoded, Encodable, LinkFamily, Lookup, PayloadRow, RowFamily, Slot,
     TableFamily, encodable_by_rows, store_by_rows, typed_lookup,
 };
 use nla_frame::{
-    DecodeError, DefaultNla, ExactEq, Family, HeaderCount, Nla, NlaBuffer, Parseable, laws,
+    DecodeError, DefaultNla, ExactEq, Family, HeaderCount, Nla, NlaBuffer, Nlas, Parseable, laws,
 };
 use std::alloc::{AllocError, Global};
 use std::marker::PhantomData;
@@ -59,10 +75,10 @@ pub enum InfoCan {
     /// Frequency of the clock, in hertz (`IFLA_CAN_CLOCK`), little-endian.
     Clock(u32),
     /// State (`IFLA_CAN_STATE`), little-endian.
-    State(u32),
+    State(CanState),
     /// The mask of the modes to change, and the modes (`IFLA_CAN_CTRLMODE`, `struct can_ctrlmode`),
     /// each little-endian.
-    CtrlMode((u32, u32)),
+    CtrlMode((CanCtrlModeFlags, CanCtrlModeFlags)),
     /// Delay until a restart after the bus was off, in milliseconds (`IFLA_CAN_RESTART_MS`),
     /// little-endian.
     RestartMs(u32),
@@ -88,11 +104,22 @@ pub enum InfoCan {
     DataBitRateConst(Numbers<u32>),
     /// Highest bit rate, in bits per second (`IFLA_CAN_BITRATE_MAX`), little-endian.
     BitRateMax(u32),
+    /// Transmitter delay compensation of CAN FD (`IFLA_CAN_TDC`), a nested list.
+    Tdc(Nlas<CanTdc>),
+    /// Modes that the device has (`IFLA_CAN_CTRLMODE_EXT`), a nested list.
+    CtrlModeExt(Nlas<CanCtrlModeExt>),
     /// Timing of the bits of data of CAN XL (`IFLA_CAN_XL_DATA_BITTIMING`), 32 bytes.
     XlDataBitTiming(CanBitTiming),
+    /// Limits of the timing of the bits of data of CAN XL (`IFLA_CAN_XL_DATA_BITTIMING_CONST`), 48
+    /// bytes.
+    XlDataBitTimingConst(CanBitTimingConst),
     /// Bit rates of data of CAN XL that the device has, in bits per second
     /// (`IFLA_CAN_XL_DATA_BITRATE_CONST`), an array of numbers, each little-endian.
     XlDataBitRateConst(Numbers<u32>),
+    /// Transmitter delay compensation of CAN XL (`IFLA_CAN_XL_TDC`), a nested list.
+    XlTdc(Nlas<CanTdc>),
+    /// Pulse width modulation of CAN XL (`IFLA_CAN_XL_PWM`), a nested list.
+    XlPwm(Nlas<CanPwm>),
     /// An opaque attribute, of a type that has no variant here, kept verbatim.
     Other(DefaultNla),
 }
@@ -103,8 +130,8 @@ macro_rules! rows {
             (1, custom, BitTiming),
             (2, custom, BitTimingConst),
             (3, le32, Clock),
-            (4, le32, State),
-            (5, flag_pair, CtrlMode),
+            (4, le32, State as CanState),
+            (5, flag_pair, CtrlMode by flags_of, pair_of),
             (6, le32, RestartMs),
             (7, le32, Restart),
             (8, custom, BerrCounter),
@@ -115,8 +142,13 @@ macro_rules! rows {
             (13, custom, BitRateConst),
             (14, custom, DataBitRateConst),
             (15, le32, BitRateMax),
+            (16, custom, Tdc),
+            (17, custom, CtrlModeExt),
             (18, custom, XlDataBitTiming),
+            (19, custom, XlDataBitTimingConst),
             (20, custom, XlDataBitRateConst),
+            (21, custom, XlTdc),
+            (22, custom, XlPwm),
         }
     };
 }
@@ -160,6 +192,25 @@ impl RowFamily for InfoCan {
     fn to_encodable(&self) -> Encodable<'_> {
         rows!(encodable_by_rows self)
     }
+}
+
+/// Makes flags and their mask from two numbers.
+fn flags_of(pair: (u32, u32)) -> (CanCtrlModeFlags, CanCtrlModeFlags)
+    ensures { result ≡ flags_under_mask pair }
+{
+    let (flags, mask) = pair;
+    (
+        CanCtrlModeFlags::from_bits_retain(flags),
+        CanCtrlModeFlags::from_bits_retain(mask),
+    )
+}
+
+/// The two numbers of flags and their mask.
+fn pair_of(under: (CanCtrlModeFlags, CanCtrlModeFlags)) -> (u32, u32)
+    ensures { result ≡ (under.0.0, under.1.0) }
+{
+    let (flags, mask) = under;
+    (flags.bits(), mask.bits())
 }
 
 /// The row of `IFLA_CAN_BITTIMING`. Wherever it is named, `T` is `()`.
@@ -466,6 +517,82 @@ impl<T> PayloadRow<InfoCan> for DataBitRateConstRow<T> {
     }
 }
 
+/// The row of `IFLA_CAN_TDC`. Wherever it is named, `T` is `()`.
+pub struct TdcRow<T> {
+    of: PhantomData<T>,
+}
+
+impl<T> PayloadRow<InfoCan> for TdcRow<T> {
+    type Payload = Nlas<CanTdc>;
+
+    const NUMBER: u16 = 16;
+
+    ghost NUMBER = { 16 };
+
+    const NESTED: bool = true;
+
+    ghost NESTED = { true };
+
+    ghost label = { λ payload. Tdc payload };
+
+    ghost is_held = { is_tdc };
+
+    ghost row_is = { λ _. has_payload };
+
+    ghost suits = { refl };
+
+    ghost written = { λ _. refl };
+
+    fn wrap(payload: Nlas<CanTdc>) -> InfoCan {
+        InfoCan::Tdc(payload)
+    }
+
+    fn payload(value: &InfoCan) -> Option<&Nlas<CanTdc>> {
+        match value {
+            InfoCan::Tdc(payload) => Some(payload),
+            _ => None,
+        }
+    }
+}
+
+/// The row of `IFLA_CAN_CTRLMODE_EXT`. Wherever it is named, `T` is `()`.
+pub struct CtrlModeExtRow<T> {
+    of: PhantomData<T>,
+}
+
+impl<T> PayloadRow<InfoCan> for CtrlModeExtRow<T> {
+    type Payload = Nlas<CanCtrlModeExt>;
+
+    const NUMBER: u16 = 17;
+
+    ghost NUMBER = { 17 };
+
+    const NESTED: bool = true;
+
+    ghost NESTED = { true };
+
+    ghost label = { λ payload. CtrlModeExt payload };
+
+    ghost is_held = { is_ctrl_mode_ext };
+
+    ghost row_is = { λ _. has_payload };
+
+    ghost suits = { refl };
+
+    ghost written = { λ _. refl };
+
+    fn wrap(payload: Nlas<CanCtrlModeExt>) -> InfoCan {
+        InfoCan::CtrlModeExt(payload)
+    }
+
+    fn payload(value: &InfoCan) -> Option<&Nlas<CanCtrlModeExt>> {
+        match value {
+            InfoCan::CtrlModeExt(payload) => Some(payload),
+            _ => None,
+        }
+    }
+}
+
 /// The row of `IFLA_CAN_XL_DATA_BITTIMING`. Wherever it is named, `T` is `()`.
 pub struct XlDataBitTimingRow<T> {
     of: PhantomData<T>,
@@ -499,6 +626,44 @@ impl<T> PayloadRow<InfoCan> for XlDataBitTimingRow<T> {
     fn payload(value: &InfoCan) -> Option<&CanBitTiming> {
         match value {
             InfoCan::XlDataBitTiming(payload) => Some(payload),
+            _ => None,
+        }
+    }
+}
+
+/// The row of `IFLA_CAN_XL_DATA_BITTIMING_CONST`. Wherever it is named, `T` is `()`.
+pub struct XlDataBitTimingConstRow<T> {
+    of: PhantomData<T>,
+}
+
+impl<T> PayloadRow<InfoCan> for XlDataBitTimingConstRow<T> {
+    type Payload = CanBitTimingConst;
+
+    const NUMBER: u16 = 19;
+
+    ghost NUMBER = { 19 };
+
+    const NESTED: bool = false;
+
+    ghost NESTED = { false };
+
+    ghost label = { λ payload. XlDataBitTimingConst payload };
+
+    ghost is_held = { is_xl_data_bit_timing_const };
+
+    ghost row_is = { λ _. has_payload };
+
+    ghost suits = { refl };
+
+    ghost written = { λ _. refl };
+
+    fn wrap(payload: CanBitTimingConst) -> InfoCan {
+        InfoCan::XlDataBitTimingConst(payload)
+    }
+
+    fn payload(value: &InfoCan) -> Option<&CanBitTimingConst> {
+        match value {
+            InfoCan::XlDataBitTimingConst(payload) => Some(payload),
             _ => None,
         }
     }
@@ -542,17 +707,99 @@ impl<T> PayloadRow<InfoCan> for XlDataBitRateConstRow<T> {
     }
 }
 
+/// The row of `IFLA_CAN_XL_TDC`. Wherever it is named, `T` is `()`.
+pub struct XlTdcRow<T> {
+    of: PhantomData<T>,
+}
+
+impl<T> PayloadRow<InfoCan> for XlTdcRow<T> {
+    type Payload = Nlas<CanTdc>;
+
+    const NUMBER: u16 = 21;
+
+    ghost NUMBER = { 21 };
+
+    const NESTED: bool = true;
+
+    ghost NESTED = { true };
+
+    ghost label = { λ payload. XlTdc payload };
+
+    ghost is_held = { is_xl_tdc };
+
+    ghost row_is = { λ _. has_payload };
+
+    ghost suits = { refl };
+
+    ghost written = { λ _. refl };
+
+    fn wrap(payload: Nlas<CanTdc>) -> InfoCan {
+        InfoCan::XlTdc(payload)
+    }
+
+    fn payload(value: &InfoCan) -> Option<&Nlas<CanTdc>> {
+        match value {
+            InfoCan::XlTdc(payload) => Some(payload),
+            _ => None,
+        }
+    }
+}
+
+/// The row of `IFLA_CAN_XL_PWM`. Wherever it is named, `T` is `()`.
+pub struct XlPwmRow<T> {
+    of: PhantomData<T>,
+}
+
+impl<T> PayloadRow<InfoCan> for XlPwmRow<T> {
+    type Payload = Nlas<CanPwm>;
+
+    const NUMBER: u16 = 22;
+
+    ghost NUMBER = { 22 };
+
+    const NESTED: bool = true;
+
+    ghost NESTED = { true };
+
+    ghost label = { λ payload. XlPwm payload };
+
+    ghost is_held = { is_xl_pwm };
+
+    ghost row_is = { λ _. has_payload };
+
+    ghost suits = { refl };
+
+    ghost written = { λ _. refl };
+
+    fn wrap(payload: Nlas<CanPwm>) -> InfoCan {
+        InfoCan::XlPwm(payload)
+    }
+
+    fn payload(value: &InfoCan) -> Option<&Nlas<CanPwm>> {
+        match value {
+            InfoCan::XlPwm(payload) => Some(payload),
+            _ => None,
+        }
+    }
+}
+
 impl TableFamily for InfoCan {
     type Custom = Both<
         Both<
-            (BitTimingRow<()>, (BitTimingConstRow<()>, ())),
-            Both<(BerrCounterRow<()>, ()), (DataBitTimingRow<()>, (DataBitTimingConstRow<()>, ()))>,
+            Both<(BitTimingRow<()>, ()), (BitTimingConstRow<()>, (BerrCounterRow<()>, ()))>,
+            Both<
+                (DataBitTimingRow<()>, (DataBitTimingConstRow<()>, ())),
+                (TerminationConstRow<()>, (BitRateConstRow<()>, ())),
+            >,
         >,
         Both<
-            (TerminationConstRow<()>, (BitRateConstRow<()>, ())),
             Both<
-                (DataBitRateConstRow<()>, ()),
-                (XlDataBitTimingRow<()>, (XlDataBitRateConstRow<()>, ())),
+                (DataBitRateConstRow<()>, (TdcRow<()>, ())),
+                (CtrlModeExtRow<()>, (XlDataBitTimingRow<()>, ())),
+            >,
+            Both<
+                (XlDataBitTimingConstRow<()>, (XlDataBitRateConstRow<()>, ())),
+                (XlTdcRow<()>, (XlPwmRow<()>, ())),
             >,
         >,
     >;
@@ -593,7 +840,8 @@ impl Nla for InfoCan {
     }
 }
 
-/// Reads the attribute. A payload of invalid length is rejected as `(Can, type, Length)`.
+/// Reads the attribute. A payload of invalid length is rejected as `(Can, type, Length)`. A list is
+/// rejected with the first error in it: that of an attribute inside, or `(Frame, 0, Header)`.
 impl<'a> Parseable<NlaBuffer<'a>> for InfoCan {
     ghost meaning = { λ nla.
         meaning_in family.Can (λ d. Other d) (λ n. row_of (can_rows n)) nla };
@@ -607,9 +855,10 @@ impl<'a> Parseable<NlaBuffer<'a>> for InfoCan {
 }
 
 impl ExactEq for InfoCan {
+    ghost use Rattle.std.proofs.Common.{rules};
     ghost use Rattle.std.specs.Cmp.Lexicographic.{pointwise_decides};
     ghost use Rattle.std.proofs.lemmas.Bool.Decides.{Decides-eqb};
-    ghost use Rattle.nla_frame.specs.Derived.{derived_decides, one_field, two_fields};
+    ghost use Rattle.nla_frame.specs.Derived.{derived_decides, one_field};
     ghost use Rattle.nla_frame.specs.Pairs.{◌&◌};
     ghost use Rattle.linkinfo_payloads.specs.contracts.records.CanBitTimingExactEq.TheImpl.Laws.{
       exact-law as bit_timing_exact,
@@ -617,8 +866,20 @@ impl ExactEq for InfoCan {
     ghost use Rattle.linkinfo_payloads.specs.contracts.records.CanBitTimingConstExactEq.TheImpl.Laws.{
       exact-law as bit_timing_const_exact,
     };
+    ghost use Rattle.linkinfo_numbers.specs.contracts.can.CanStateExactEq.TheImpl.Laws.{
+      exact-law as state_exact,
+    };
     ghost use Rattle.linkinfo_payloads.specs.contracts.records.CanBerrCounterExactEq.TheImpl.Laws.{
       exact-law as error_counter_exact,
+    };
+    ghost use Rattle.linkinfo_typed.specs.contracts.can_tdc.CanTdcExactEq.TheImpl.Laws.{
+      exact-law as can_tdc_exact,
+    };
+    ghost use Rattle.linkinfo_typed.specs.contracts.can_ctrl_mode_ext.CanCtrlModeExtExactEq.TheImpl.Laws.{
+      exact-law as can_ctrl_mode_ext_exact,
+    };
+    ghost use Rattle.linkinfo_typed.specs.contracts.can_pwm.CanPwmExactEq.TheImpl.Laws.{
+      exact-law as can_pwm_exact,
     };
     ghost use Rattle.nla_frame.specs.contracts.default_nla.DefaultNlaExactEq.TheImpl.Laws.{
       exact-law as kept_exact,
@@ -628,16 +889,20 @@ impl ExactEq for InfoCan {
     ghost exact = { let bit_timing = one_field bit_timing_exact in
         let bit_timing_const = one_field bit_timing_const_exact in
         let number = one_field Decides-eqb in
-        let pair = one_field (two_fields Decides-eqb Decides-eqb) in
+        let state = one_field state_exact in
+        let sets = one_field (λ a b. Prim.search rules) in
         let error_counter = one_field error_counter_exact in
         let numbers = one_field (pointwise_decides Decides-eqb) in
+        let can_tdc = one_field (pointwise_decides can_tdc_exact) in
+        let can_ctrl_mode_ext = one_field (pointwise_decides can_ctrl_mode_ext_exact) in
+        let can_pwm = one_field (pointwise_decides can_pwm_exact) in
         let kept = one_field kept_exact in
         derived_decides enum _
         (bit_timing
         & bit_timing_const
         & number
-        & number
-        & pair
+        & state
+        & sets
         & number
         & number
         & error_counter
@@ -648,8 +913,13 @@ impl ExactEq for InfoCan {
         & numbers
         & numbers
         & number
+        & can_tdc
+        & can_ctrl_mode_ext
         & bit_timing
+        & bit_timing_const
         & numbers
+        & can_tdc
+        & can_pwm
         & kept
         & tt) };
 }

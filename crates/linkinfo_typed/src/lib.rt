@@ -1,10 +1,18 @@
-//! Attributes of links that are opaque in `linkinfo_table::lower`, with types: `vlan` links, and
-//! the mappings of priorities inside their attributes.
+//! Attributes of links that are opaque in `linkinfo_table::lower`, with types, and those of lists
+//! inside them.
 #![tactic(auto)]
 
 // Begin: written by tables/generate from tables/families (modules).
 mod bond;
+mod bond_ad_info;
+mod bond_port;
+mod bridge;
+mod bridge_port;
+mod bridge_querier_state;
 mod can;
+mod can_ctrl_mode_ext;
+mod can_pwm;
+mod can_tdc;
 mod dsa;
 mod hsr;
 mod qos;
@@ -16,7 +24,15 @@ pub mod laws;
 
 // Begin: written by tables/generate from tables/families (types).
 pub use bond::InfoBond;
+pub use bond_ad_info::BondAdInfo;
+pub use bond_port::InfoBondPort;
+pub use bridge::InfoBridge;
+pub use bridge_port::InfoBridgePort;
+pub use bridge_querier_state::BridgeQuerierState;
 pub use can::InfoCan;
+pub use can_ctrl_mode_ext::CanCtrlModeExt;
+pub use can_pwm::CanPwm;
+pub use can_tdc::CanTdc;
 pub use dsa::InfoDsa;
 pub use hsr::InfoHsr;
 pub use qos::VlanQosMapping;

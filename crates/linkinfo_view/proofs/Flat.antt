@@ -120,6 +120,7 @@ use Rattle.linkinfo_view.specs.declared.format.Flags.{Flags}
 use Rattle.linkinfo_view.specs.declared.format.Format.{Format}
 use Rattle.linkinfo_view.specs.declared.format.Format.TheVariants as format
 use Rattle.linkinfo_view.specs.declared.format.Table.{Table}
+use Rattle.linkinfo_view.specs.declared.format.Table.TheVariants as tables
 
 -- not deeper than a number, and without a float
 pub record IsFlat (n : ℕ) (d : Data) : Type 0 where
@@ -408,7 +409,8 @@ members_flat nested n le all name (format.SecondNames flags) v payload =
     (deeper 1 n _ (omega arith) (names_data_flat flags _), (text_flat n _, tt))
 members_flat nested n le all name (format.List el) v payload =
     (deeper 2 n _ le (elements_data_flat el payload), tt)
-members_flat nested n le all name (format.Nested table) v payload = (all table payload, tt)
+members_flat nested n le all name (format.Nested f) v payload =
+    (all (tables.Family f) payload, tt)
 members_flat nested n le all name f v payload =
     (deeper 1 n (format_data f v payload) (omega arith) (format_flat f v payload), tt)
 

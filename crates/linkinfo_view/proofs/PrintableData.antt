@@ -703,7 +703,8 @@ members_printable nested all name (format.SecondNames f) v payload p h g = (
 )
 members_printable nested all name (format.List el) v payload p h g =
     ((p, elements_data_printable el payload h), tt)
-members_printable nested all name (format.Nested t) v payload p h g = ((p, all t payload h), tt)
+members_printable nested all name (format.Nested f) v payload p h g =
+    ((p, all (table.Family f) payload h), tt)
 members_printable nested all name f v payload p h g =
     ((p, format_printable f v payload h g), tt)
 

@@ -28,11 +28,11 @@ use Rattle.linkinfo_view.specs.declared.entries.TheConstants.{
   BOND_PORT,
   BRIDGE,
   BRIDGE_PORT,
-  BRIDGE_QUERIER,
+  BRIDGE_QUERIER_STATE,
   CAN,
-  CAN_DELAY,
-  CAN_MODES,
-  CAN_PULSE,
+  CAN_CTRL_MODE_EXT,
+  CAN_PWM,
+  CAN_TDC,
   DSA,
   GENEVE,
   GRE,
@@ -96,6 +96,11 @@ family_rows family.Can = lines CAN.now
 family_rows family.Dsa = lines DSA.now
 family_rows family.Hsr = lines HSR.now
 family_rows family.Tun = lines TUN.now
+family_rows family.BondAdInfo = lines BOND_AD_INFO.now
+family_rows family.BridgeQuerierState = lines BRIDGE_QUERIER_STATE.now
+family_rows family.CanTdc = lines CAN_TDC.now
+family_rows family.CanCtrlModeExt = lines CAN_CTRL_MODE_EXT.now
+family_rows family.CanPwm = lines CAN_PWM.now
 -- End: written by tables/generate.
 family_rows _ = []
 
@@ -104,11 +109,6 @@ abbrev pub own_rows : Table → List (ℕ × Line)
 own_rows (table.Family f) = family_rows f
 own_rows table.Sit = lines SIT.now
 own_rows table.Ip6Tunnel = lines IP6_TUNNEL.now
-own_rows table.BondAdInfo = lines BOND_AD_INFO.now
-own_rows table.BridgeQuerier = lines BRIDGE_QUERIER.now
-own_rows table.CanDelay = lines CAN_DELAY.now
-own_rows table.CanModes = lines CAN_MODES.now
-own_rows table.CanPulse = lines CAN_PULSE.now
 
 -- the rows that a table shares with others: those of tunnels
 abbrev pub shared_rows : Table → List (ℕ × Line)

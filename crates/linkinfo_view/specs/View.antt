@@ -53,6 +53,7 @@ use Rattle.linkinfo_view.specs.declared.format.Flags.{Flags}
 use Rattle.linkinfo_view.specs.declared.format.Format.{Format}
 use Rattle.linkinfo_view.specs.declared.format.Format.TheVariants as format
 use Rattle.linkinfo_view.specs.declared.format.Table.{Table}
+use Rattle.linkinfo_view.specs.declared.format.Table.TheVariants as tables
 
 -- an attribute that is not shown by a row: its whole type, and its payload in hex; under its name,
 -- if it has one
@@ -149,7 +150,8 @@ format_members nested name (format.Names flags) value payload =
 format_members nested name (format.SecondNames flags) value payload =
     names_members flags name (codes "ctrlmode_mask") (second_of value) (first_of value)
 format_members nested name (format.List el) value payload = (name, elements_data el payload) ∷ []
-format_members nested name (format.Nested table) value payload = (name, nested table payload) ∷ []
+format_members nested name (format.Nested family) value payload =
+    (name, nested (tables.Family family) payload) ∷ []
 format_members nested name format value payload = (name, format_data format value payload) ∷ []
 
 -- the members of a payload by a row; a payload that the row's shape rejects is hex

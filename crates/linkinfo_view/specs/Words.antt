@@ -168,6 +168,11 @@ word_rows words.PrimaryReselect =
     (1, codes "better") ∷
     (2, codes "failure") ∷
     []
+word_rows words.StpMode =
+    (0, codes "auto") ∷
+    (1, codes "user") ∷
+    (2, codes "kernel") ∷
+    []
 word_rows words.TransmitHash =
     (0, codes "layer2") ∷
     (1, codes "layer3+4") ∷

@@ -1,8 +1,9 @@
 // Written by tables/generate from tables/families.
 //! The rows of all tables: how each attribute is shown to people.
 
-use crate::format::{Elements, Flags, Format, Table, Words};
+use crate::format::{Elements, Flags, Format, Words};
 use linkinfo_shapes::Shape;
+use nla_frame::Family;
 
 /// A row: the type without flag bits, the member's name as `ip -j` prints it, the layout of the
 /// payload, and how its value is shown.
@@ -321,7 +322,7 @@ pub(crate) const BOND: &[Entry] = rows! {
     (20, "packets_per_slave", Le32, Plain),
     (21, "ad_lacp_rate", U8, Word(Words::LacpRate)),
     (22, "ad_select", U8, Word(Words::AdSelect)),
-    (23, "ad_info", Raw, Nested(Table::BondAdInfo)),
+    (23, "ad_info", Raw, Nested(Family::BondAdInfo)),
     (24, "ad_actor_sys_prio", Le16, Plain),
     (25, "ad_user_port_key", Le16, Plain),
     (26, "ad_actor_system", Mac, Plain),
@@ -332,6 +333,7 @@ pub(crate) const BOND: &[Entry] = rows! {
     (31, "ns_ip6_target", Raw, List(Elements::Addresses)),
     (32, "coupled_control", U8, Switch),
     (33, "broadcast_neighbor", U8, Switch),
+    (34, "lacp_strict", U8, Switch),
 };
 
 /// `IFLA_BOND_SLAVE_*`.
@@ -397,9 +399,10 @@ pub(crate) const BRIDGE: &[Entry] = rows! {
     (44, "mcast_mld_version", U8, Plain),
     (45, "vlan_stats_per_port", U8, Plain),
     (46, "multi_boolopt", FlagPair, Options(Flags::BridgeOptions)),
-    (47, "mcast_querier_state", Raw, Nested(Table::BridgeQuerier)),
+    (47, "mcast_querier_state", Raw, Nested(Family::BridgeQuerierState)),
     (48, "fdb_n_learned", Le32, Plain),
     (49, "fdb_max_learned", Le32, Plain),
+    (50, "stp_mode", Le32, Word(Words::StpMode)),
 };
 
 /// `IFLA_BRPORT_*`.
@@ -407,15 +410,15 @@ pub(crate) const BRIDGE_PORT: &[Entry] = rows! {
     (1, "state", U8, Word(Words::BridgePortState)),
     (2, "priority", Le16, Plain),
     (3, "cost", Le32, Plain),
-    (4, "hairpin", U8, Switch),
-    (5, "guard", U8, Switch),
-    (6, "root_block", U8, Switch),
-    (7, "fastleave", U8, Switch),
-    (8, "learning", U8, Switch),
-    (9, "flood", U8, Switch),
-    (10, "proxy_arp", U8, Switch),
-    (11, "learning_sync", U8, Switch),
-    (12, "proxy_arp_wifi", U8, Switch),
+    (4, "hairpin", Truth, Switch),
+    (5, "guard", Truth, Switch),
+    (6, "root_block", Truth, Switch),
+    (7, "fastleave", Truth, Switch),
+    (8, "learning", Truth, Switch),
+    (9, "flood", Truth, Switch),
+    (10, "proxy_arp", Truth, Switch),
+    (11, "learning_sync", Truth, Switch),
+    (12, "proxy_arp_wifi", Truth, Switch),
     (13, "root_id", Raw, BridgeId),
     (14, "bridge_id", Raw, BridgeId),
     (15, "designated_port", Le16, Plain),
@@ -429,24 +432,25 @@ pub(crate) const BRIDGE_PORT: &[Entry] = rows! {
     (23, "hold_timer", Le64, Plain),
     (24, "flush", Mark, Present),
     (25, "multicast_router", U8, Plain),
-    (27, "mcast_flood", U8, Switch),
-    (28, "mcast_to_unicast", U8, Switch),
-    (29, "vlan_tunnel", U8, Switch),
-    (30, "bcast_flood", U8, Switch),
+    (27, "mcast_flood", Truth, Switch),
+    (28, "mcast_to_unicast", Truth, Switch),
+    (29, "vlan_tunnel", Truth, Switch),
+    (30, "bcast_flood", Truth, Switch),
     (31, "group_fwd_mask", Le16, Mask(Flags::GroupForward)),
-    (32, "neigh_suppress", U8, Switch),
-    (33, "isolated", U8, Switch),
+    (32, "neigh_suppress", Truth, Switch),
+    (33, "isolated", Truth, Switch),
     (34, "backup_port", Le32, Plain),
-    (35, "mrp_ring_open", U8, Switch),
-    (36, "mrp_in_open", U8, Switch),
+    (35, "mrp_ring_open", Truth, Switch),
+    (36, "mrp_in_open", Truth, Switch),
     (37, "mcast_eht_hosts_limit", Le32, Plain),
     (38, "mcast_eht_hosts_cnt", Le32, Plain),
-    (39, "locked", U8, Switch),
-    (40, "mab", U8, Switch),
+    (39, "locked", Truth, Switch),
+    (40, "mab", Truth, Switch),
     (41, "mcast_n_groups", Le32, Plain),
     (42, "mcast_max_groups", Le32, Plain),
     (43, "neigh_vlan_suppress", U8, Switch),
     (44, "backup_nhid", Le32, Plain),
+    (45, "neigh_forward_grat", U8, Switch),
 };
 
 /// `IFLA_VLAN_*`.
@@ -475,13 +479,13 @@ pub(crate) const CAN: &[Entry] = rows! {
     (13, "bitrate_const", Raw, Plain),
     (14, "data_bitrate_const", Raw, Plain),
     (15, "bitrate_max", Le32, Plain),
-    (16, "tdc", Raw, Nested(Table::CanDelay)),
-    (17, "ctrlmode_ext", Raw, Nested(Table::CanModes)),
+    (16, "tdc", Raw, Nested(Family::CanTdc)),
+    (17, "ctrlmode_ext", Raw, Nested(Family::CanCtrlModeExt)),
     (18, "xl_data_bittiming", Raw, BitTiming),
     (19, "xl_data_bittiming_const", Raw, Plain),
     (20, "xl_data_bitrate_const", Raw, Plain),
-    (21, "xl_tdc", Raw, Nested(Table::CanDelay)),
-    (22, "xl_pwm", Raw, Nested(Table::CanPulse)),
+    (21, "xl_tdc", Raw, Nested(Family::CanTdc)),
+    (22, "xl_pwm", Raw, Nested(Family::CanPwm)),
 };
 
 /// `IFLA_DSA_*`.
@@ -524,7 +528,7 @@ pub(crate) const BOND_AD_INFO: &[Entry] = rows! {
 };
 
 /// `BRIDGE_QUERIER_*` (include/uapi/linux/if_bridge.h), inside `IFLA_BR_MCAST_QUERIER_STATE`.
-pub(crate) const BRIDGE_QUERIER: &[Entry] = rows! {
+pub(crate) const BRIDGE_QUERIER_STATE: &[Entry] = rows! {
     (1, "mcast_querier_ipv4_addr", V4, Plain),
     (2, "mcast_querier_ipv4_port", Le32, Plain),
     (3, "mcast_querier_ipv4_other_timer", Le64, Plain),
@@ -533,8 +537,9 @@ pub(crate) const BRIDGE_QUERIER: &[Entry] = rows! {
     (7, "mcast_querier_ipv6_other_timer", Le64, Plain),
 };
 
-/// `IFLA_CAN_TDC_*` (include/uapi/linux/can/netlink.h), inside `IFLA_CAN_TDC`.
-pub(crate) const CAN_DELAY: &[Entry] = rows! {
+/// `IFLA_CAN_TDC_*` (include/uapi/linux/can/netlink.h), inside `IFLA_CAN_TDC` and
+/// `IFLA_CAN_XL_TDC`.
+pub(crate) const CAN_TDC: &[Entry] = rows! {
     (1, "tdcv_min", Le32, Plain),
     (2, "tdcv_max", Le32, Plain),
     (3, "tdco_min", Le32, Plain),
@@ -547,12 +552,12 @@ pub(crate) const CAN_DELAY: &[Entry] = rows! {
 };
 
 /// `IFLA_CAN_CTRLMODE_*` (include/uapi/linux/can/netlink.h), inside `IFLA_CAN_CTRLMODE_EXT`.
-pub(crate) const CAN_MODES: &[Entry] = rows! {
+pub(crate) const CAN_CTRL_MODE_EXT: &[Entry] = rows! {
     (1, "supported", Le32, Hex),
 };
 
 /// `IFLA_CAN_PWM_*` (include/uapi/linux/can/netlink.h), inside `IFLA_CAN_XL_PWM`.
-pub(crate) const CAN_PULSE: &[Entry] = rows! {
+pub(crate) const CAN_PWM: &[Entry] = rows! {
     (1, "pwms_min", Le32, Plain),
     (2, "pwms_max", Le32, Plain),
     (3, "pwml_min", Le32, Plain),

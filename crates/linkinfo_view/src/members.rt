@@ -490,7 +490,14 @@ fn put_formatted<N: Nesting>(
             put_names(alloc, flags, (name, "ctrlmode_mask"), numbers, map)
         }
         Format::List(elements) => put(map, alloc, name, elements_json(alloc, elements, payload)?),
-        Format::Nested(table) => put(map, alloc, name, N::nested_json(alloc, table, payload)?),
+        Format::Nested(family) => {
+            put(
+                map,
+                alloc,
+                name,
+                N::nested_json(alloc, Table::Family(family), payload)?,
+            )
+        }
         format => put(
             map,
             alloc,

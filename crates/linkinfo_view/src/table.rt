@@ -6,10 +6,10 @@ ghost use Rattle.linkinfo_view.specs.Table.{family_rows, found, own_rows, row_of
 
 // Begin: written by tables/generate from tables/families (imports).
 use crate::entries::{
-    AMT, BARE_UDP, BAT_ADV, BOND, BOND_AD_INFO, BOND_PORT, BRIDGE, BRIDGE_PORT, BRIDGE_QUERIER,
-    CAN, CAN_DELAY, CAN_MODES, CAN_PULSE, DSA, Entry, GENEVE, GRE, GRE6, GTP, HSR, IP_TUNNEL,
-    IP_VLAN, IP6_TUNNEL, IPOIB, MAC_SEC, MAC_VLAN, NETKIT, RM_NET, SIT, TUN, TUNNEL, VETH, VLAN,
-    VRF, VTI, VXLAN, WWAN, XFRM,
+    AMT, BARE_UDP, BAT_ADV, BOND, BOND_AD_INFO, BOND_PORT, BRIDGE, BRIDGE_PORT,
+    BRIDGE_QUERIER_STATE, CAN, CAN_CTRL_MODE_EXT, CAN_PWM, CAN_TDC, DSA, Entry, GENEVE, GRE, GRE6,
+    GTP, HSR, IP_TUNNEL, IP_VLAN, IP6_TUNNEL, IPOIB, MAC_SEC, MAC_VLAN, NETKIT, RM_NET, SIT, TUN,
+    TUNNEL, VETH, VLAN, VRF, VTI, VXLAN, WWAN, XFRM,
 };
 // End: written by tables/generate.
 use crate::format::{Row, Table};
@@ -50,11 +50,6 @@ fn own_rows(table: Table) -> &'static [Entry]
         Table::Family(family) => family_rows(family),
         Table::Sit => SIT,
         Table::Ip6Tunnel => IP6_TUNNEL,
-        Table::BondAdInfo => BOND_AD_INFO,
-        Table::BridgeQuerier => BRIDGE_QUERIER,
-        Table::CanDelay => CAN_DELAY,
-        Table::CanModes => CAN_MODES,
-        Table::CanPulse => CAN_PULSE,
     }
 }
 
@@ -103,6 +98,11 @@ fn family_rows(family: Family) -> &'static [Entry]
         Family::Dsa => DSA,
         Family::Hsr => HSR,
         Family::Tun => TUN,
+        Family::BondAdInfo => BOND_AD_INFO,
+        Family::BridgeQuerierState => BRIDGE_QUERIER_STATE,
+        Family::CanTdc => CAN_TDC,
+        Family::CanCtrlModeExt => CAN_CTRL_MODE_EXT,
+        Family::CanPwm => CAN_PWM,
         // End: written by tables/generate.
         Family::Frame
         | Family::LinkInfo

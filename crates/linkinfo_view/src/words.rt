@@ -59,6 +59,7 @@ pub fn word(words: Words, number: u64) -> Option<&'static str>
         Words::NetkitScrub => netkit_scrub(number),
         Words::OffOn => off_on(number),
         Words::PrimaryReselect => primary_reselect(number),
+        Words::StpMode => stp_mode(number),
         Words::TransmitHash => transmit_hash(number),
         Words::TunType => tun_type(number),
         Words::Tunnel6Protocol => tunnel6_protocol(number),
@@ -433,6 +434,18 @@ fn primary_reselect(number: u64) -> Option<&'static str>
         0 => Some("always"),
         1 => Some("better"),
         2 => Some("failure"),
+        _ => None,
+    }
+}
+
+/// `IFLA_BR_STP_MODE`.
+fn stp_mode(number: u64) -> Option<&'static str>
+    ensures { option_copied result ≡ word_found (word_rows words.StpMode) number }
+{
+    match number {
+        0 => Some("auto"),
+        1 => Some("user"),
+        2 => Some("kernel"),
         _ => None,
     }
 }

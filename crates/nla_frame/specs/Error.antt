@@ -50,6 +50,11 @@ family_name family.Wireguard = codes "wireguard"
 family_name family.Wwan = codes "wwan"
 family_name family.Xfrm = codes "xfrm"
 family_name family.VlanQosMapping = codes "vlanqosmapping"
+family_name family.BondAdInfo = codes "bondadinfo"
+family_name family.BridgeQuerierState = codes "bridgequerierstate"
+family_name family.CanTdc = codes "cantdc"
+family_name family.CanCtrlModeExt = codes "canctrlmodeext"
+family_name family.CanPwm = codes "canpwm"
 
 -- End: written by tables/generate.
 

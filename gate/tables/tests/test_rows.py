@@ -20,7 +20,8 @@ type    name    variant       layout                  member  shown as
       Flags, and
         more of them
 9       PROTO   -             U8                      proto   Word Protocol
-28      TTL     Flag/Ttl      EmptyOrByte
+28      TTL     Flag/Ttl      \\
+        EmptyOrByte
 9/sit   PROTO   -             Nested Other            other
 """
 LISTED = """\
@@ -74,7 +75,7 @@ class Rows(unittest.TestCase):
                      (), "U8", "", "proto", "Word Protocol"),
             rows.Row("tables/iptunnel:15", 28, "", ("IFLA_IPTUN_TTL", "IFLA_OTHER_TTL"),
                      ("Flag", "Ttl"), "EmptyOrByte", "", "", ""),
-            rows.Row("tables/iptunnel:16", 9, "sit", ("IFLA_IPTUN_PROTO", "IFLA_OTHER_PROTO"),
+            rows.Row("tables/iptunnel:17", 9, "sit", ("IFLA_IPTUN_PROTO", "IFLA_OTHER_PROTO"),
                      (), "Nested", "", "other", "", "Other")))
 
     def test_rows_of_a_kind(self):

@@ -64,6 +64,11 @@ macro_rules! families {
             Wwan = 36,
             Xfrm = 37,
             VlanQosMapping = 38,
+            BondAdInfo = 39,
+            BridgeQuerierState = 40,
+            CanTdc = 41,
+            CanCtrlModeExt = 42,
+            CanPwm = 43,
             // End: written by tables/generate.
         }
     };

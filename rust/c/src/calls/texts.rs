@@ -84,7 +84,7 @@ pub fn linkinfo_port_kind_of_name(name: &[u8]) -> u16 {
 }
 
 /// Writes family, type in decimal and cause of an error, as `linkinfo 2 order`, and returns the
-/// length of this text: at most 32 bytes. The text is empty without an error, and if a number is no
+/// length of this text: at most 36 bytes. The text is empty without an error, and if a number is no
 /// family or no cause.
 pub fn linkinfo_error_text(error: LinkinfoError, buffer: &mut [u8]) -> usize {
     match (family_of_code(error.family), cause_of_code(error.cause)) {
@@ -100,8 +100,8 @@ pub fn linkinfo_error_text(error: LinkinfoError, buffer: &mut [u8]) -> usize {
     }
 }
 
-/// The text of an error: at most 14, 5 and 11 bytes, with a space between them.
-fn error_line(error: DecodeError) -> ArrayString<32> {
+/// The text of an error: at most 18, 5 and 11 bytes, with a space between them.
+fn error_line(error: DecodeError) -> ArrayString<36> {
     let mut text = ArrayString::new();
     let mut decimal = itoa::Buffer::new();
     text.push_str(error.family.name());
@@ -113,7 +113,7 @@ fn error_line(error: DecodeError) -> ArrayString<32> {
 }
 
 /// Writes the kernel's name of an attribute's type, as `IFLA_VXLAN_ID`, and returns its length: at
-/// most 31 bytes. The type is without its two flag bits. The name is empty for a type that has no
+/// most 47 bytes. The type is without its two flag bits. The name is empty for a type that has no
 /// row in the family, and for a number that is no family.
 pub fn linkinfo_attribute_name(family: u16, kind: u16, buffer: &mut [u8]) -> usize {
     match family_of_code(family) {
@@ -126,7 +126,7 @@ pub fn linkinfo_attribute_name(family: u16, kind: u16, buffer: &mut [u8]) -> usi
 }
 
 /// Writes an error as a sentence for people, as `IFLA_INFO_DATA before IFLA_INFO_KIND, at offset
-/// 0`, and returns the length of this text: at most 104 bytes. The text is empty without an error,
+/// 0`, and returns the length of this text: at most 120 bytes. The text is empty without an error,
 /// and if a number is no family or no cause.
 pub fn linkinfo_error_message(error: LinkinfoError, offset: usize, buffer: &mut [u8]) -> usize {
     match (family_of_code(error.family), cause_of_code(error.cause)) {
@@ -142,8 +142,8 @@ pub fn linkinfo_error_message(error: LinkinfoError, offset: usize, buffer: &mut 
     }
 }
 
-/// The sentence of an error: at most 31, 1, 40, 12 and 20 bytes.
-fn sentence(error: DecodeError, offset: usize) -> ArrayString<104> {
+/// The sentence of an error: at most 47, 1, 40, 12 and 20 bytes.
+fn sentence(error: DecodeError, offset: usize) -> ArrayString<120> {
     let mut text = ArrayString::new();
     match error.cause {
         Cause::Memory => text.push_str("out of memory"),
@@ -166,16 +166,16 @@ fn sentence(error: DecodeError, offset: usize) -> ArrayString<104> {
     text
 }
 
-/// Writes after a text at which offset the error is. Requires that the text has at most 72 bytes.
-fn push_offset(text: &mut ArrayString<104>, offset: usize) {
+/// Writes after a text at which offset the error is. Requires that the text has at most 88 bytes.
+fn push_offset(text: &mut ArrayString<120>, offset: usize) {
     let mut decimal = itoa::Buffer::new();
     text.push_str(", at offset ");
     text.push_str(decimal.format(offset));
 }
 
-/// The attribute of an error: the kernel's name of its type, of at most 31 bytes, or the type and
+/// The attribute of an error: the kernel's name of its type, of at most 47 bytes, or the type and
 /// the family.
-fn subject(error: DecodeError) -> ArrayString<31> {
+fn subject(error: DecodeError) -> ArrayString<47> {
     let mut text = ArrayString::new();
     match attribute_name(error.family, error.kind) {
         Some(name) => text.push_str(name),

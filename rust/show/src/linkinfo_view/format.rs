@@ -8,22 +8,12 @@ use linkinfo::layers::shapes::Shape;
 /// Which rows apply to a list of attributes.
 #[derive(Clone, Copy, Debug, PartialEq, Eq)]
 pub enum Table {
-    /// The data or port data of a family. Of `Family::IpTunnel`, the rows of `ipip` links.
+    /// A list of a family. Of `Family::IpTunnel`, the rows of `ipip` links.
     Family(Family),
     /// The data of `sit` links.
     Sit,
     /// The data of `ip6tnl` links.
     Ip6Tunnel,
-    /// The list in `IFLA_BOND_AD_INFO`.
-    BondAdInfo,
-    /// The list in `IFLA_BR_MCAST_QUERIER_STATE`.
-    BridgeQuerier,
-    /// The list in `IFLA_CAN_TDC` and `IFLA_CAN_XL_TDC`.
-    CanDelay,
-    /// The list in `IFLA_CAN_CTRLMODE_EXT`.
-    CanModes,
-    /// The list in `IFLA_CAN_XL_PWM`.
-    CanPulse,
 }
 
 impl Table {
@@ -118,7 +108,7 @@ pub enum Format {
     /// A nested list of attributes that are all alike.
     List(Elements),
     /// A nested list of attributes with rows of their own.
-    Nested(Table),
+    Nested(Family),
 }
 
 /// The attribute whose numbers have names.
@@ -184,6 +174,8 @@ pub enum Words {
     OffOn,
     /// `IFLA_BOND_PRIMARY_RESELECT`.
     PrimaryReselect,
+    /// `IFLA_BR_STP_MODE`.
+    StpMode,
     /// `IFLA_BOND_XMIT_HASH_POLICY`.
     TransmitHash,
     /// `IFLA_TUN_TYPE`.

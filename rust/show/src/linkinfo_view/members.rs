@@ -321,7 +321,7 @@ fn put_formatted<N: Nesting>(
             put_names(flags, (name, "ctrlmode_mask"), numbers, map)
         }
         Format::List(elements) => put(map, name, elements_json(elements, payload)?),
-        Format::Nested(table) => put(map, name, N::nested_json(table, payload)?),
+        Format::Nested(family) => put(map, name, N::nested_json(Table::Family(family), payload)?),
         format => put(map, name, format_json(format, datum, payload)?),
     }
 }

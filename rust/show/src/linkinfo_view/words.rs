@@ -45,6 +45,7 @@ pub fn word(words: Words, number: u64) -> Option<&'static str> {
         Words::NetkitScrub => netkit_scrub(number),
         Words::OffOn => off_on(number),
         Words::PrimaryReselect => primary_reselect(number),
+        Words::StpMode => stp_mode(number),
         Words::TransmitHash => transmit_hash(number),
         Words::TunType => tun_type(number),
         Words::Tunnel6Protocol => tunnel6_protocol(number),
@@ -359,6 +360,16 @@ fn primary_reselect(number: u64) -> Option<&'static str> {
         0 => Some("always"),
         1 => Some("better"),
         2 => Some("failure"),
+        _ => None,
+    }
+}
+
+/// `IFLA_BR_STP_MODE`.
+fn stp_mode(number: u64) -> Option<&'static str> {
+    match number {
+        0 => Some("auto"),
+        1 => Some("user"),
+        2 => Some("kernel"),
         _ => None,
     }
 }

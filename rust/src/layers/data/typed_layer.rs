@@ -16,13 +16,15 @@ use crate::layers::data::tunnels::{TunnelFamily, of_tunnel};
 use crate::layers::devices::InfoVrfPort;
 use crate::layers::nla_frame::{Bytes, DecodeError, HeaderCount};
 use crate::layers::peers::InfoTeamPort;
-use crate::layers::table::lower::{InfoBond, InfoBondPort, InfoBridge, InfoBridgePort, InfoCan};
 use crate::layers::table::{LinkLayer, LinkPeer};
-use crate::layers::typed::{InfoDsa, InfoHsr, InfoTun, InfoVlan};
+use crate::layers::typed::{
+    InfoBond, InfoBondPort, InfoBridge, InfoBridgePort, InfoCan, InfoDsa, InfoHsr, InfoTun,
+    InfoVlan,
+};
 use core::marker::PhantomData;
 
-/// The layer whose peers are `P`, and whose attributes of `dsa`, `hsr`, `tun` and `vlan` links have
-/// types. Those of `bond`, `bridge` and `can` links, and of ports of bonds and bridges, are opaque.
+/// The layer whose peers are `P`, and whose attributes of `bond`, `bridge`, `can`, `dsa`, `hsr`,
+/// `tun` and `vlan` links, and of ports of bonds and bridges, have types.
 ///
 /// A list of links with such attributes is `VecLinkInfoOf<Typed<Bytes>>`.
 #[derive(Clone, Debug, PartialEq, Eq, Hash, PartialOrd, Ord)]

@@ -59,11 +59,15 @@ pub use crate::layers::devices::{
 pub use crate::layers::devices::{InfoIpVlanOf, InfoVrfPort};
 // Begin: written by tables/generate from tables/numbers.
 pub use crate::layers::numbers::{
-    AmtMode, ErSpanDir, EthernetProtocol, GeneveDf, GreEncapFlags, GreEncapType, GreIOFlags,
-    GtpRole, HsrProtocol, InfoRmNetFlags, Ip6TunnelFlags, IpProtocol, IpVlanFlags, IpVlanMode,
-    IpVtapFlags, IpVtapMode, IpoibMode, MacSecCipherId, MacSecOffload, MacSecValidate,
-    MacVlanFlags, MacVlanMacAddressMode, MacVlanMode, MacVtapFlags, MacVtapMacAddressMode,
-    MacVtapMode, NetkitMode, NetkitPolicy, NetkitScrub, RmNetFlags, TunType, TunnelEncapFlags,
+    AmtMode, BondAdSelect, BondAllPortActive, BondArpAllTargets, BondArpValidate, BondFailOverMac,
+    BondLacpRate, BondMode, BondPortState, BondPrimaryReselect, BondXmitHashPolicy,
+    BridgeBooleanOptionFlags, BridgeMulticastRouterType, BridgePortState, BridgeStpMode,
+    BridgeStpState, CanCtrlModeFlags, CanState, ChurnState, ErSpanDir, EthernetProtocol, GeneveDf,
+    GreEncapFlags, GreEncapType, GreIOFlags, GtpRole, HsrProtocol, InfoRmNetFlags, Ip6TunnelFlags,
+    IpProtocol, IpVlanFlags, IpVlanMode, IpVtapFlags, IpVtapMode, IpoibMode, LacpState,
+    LacpState16, MacSecCipherId, MacSecOffload, MacSecValidate, MacVlanFlags,
+    MacVlanMacAddressMode, MacVlanMode, MacVtapFlags, MacVtapMacAddressMode, MacVtapMode,
+    MiiStatus, NetkitMode, NetkitPolicy, NetkitScrub, OnOff, RmNetFlags, TunType, TunnelEncapFlags,
     TunnelEncapType, VlanFlags, VlanProtocol, VxlanDf,
 };
 // End: written by tables/generate.

@@ -1,7 +1,8 @@
 // @generated from crates/linkinfo/src/typed.rt by rust/translate/run.
 
-//! Lists over the typed layer, by the names of the crate's root: the attributes of `dsa`, `hsr`,
-//! `tun` and `vlan` links have types here, and so have the priority maps in those of `vlan` links.
+//! Lists over the typed layer, by the names of the crate's root: the attributes of `bond`,
+//! `bridge`, `can`, `dsa`, `hsr`, `tun` and `vlan` links, and of ports of bonds and bridges, have
+//! types here, and so have those of the lists inside them.
 //!
 //! ```
 //! use linkinfo::typed::{self, InfoData, InfoVlan, LinkInfo, VecLinkInfo};
@@ -32,7 +33,13 @@ use crate::layers::link::list::{VecLinkInfoOf, check_of, same_of};
 use crate::layers::link::placed::{ErrorAt, ErrorIn, check_at_of};
 use crate::layers::link::unmet::first_unmet_of;
 use crate::layers::nla_frame::{Bytes, DecodeError};
-pub use crate::layers::typed::{InfoDsa, InfoHsr, InfoTun, InfoVlan, VlanQosMapping};
+pub use crate::layers::payloads::{
+    Addresses, BridgeId, CanBerrCounter, CanBitTiming, CanBitTimingConst, Numbers,
+};
+pub use crate::layers::typed::{
+    BondAdInfo, BridgeQuerierState, CanCtrlModeExt, CanPwm, CanTdc, InfoBond, InfoBondPort,
+    InfoBridge, InfoBridgePort, InfoCan, InfoDsa, InfoHsr, InfoTun, InfoVlan, VlanQosMapping,
+};
 use alloc::vec::Vec;
 
 /// The contents of `IFLA_LINKINFO`, over the typed layer, with peers kept as bytes.

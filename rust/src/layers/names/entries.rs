@@ -3,7 +3,7 @@
 // Written by tables/generate from tables/families.
 //! The kernel's names of the attributes of each family.
 
-/// A row: the type without flag bits, and the name, of at most 31 bytes.
+/// A row: the type without flag bits, and the name, of at most 47 bytes.
 pub(crate) type Entry = (u16, &'static str);
 
 /// `IFLA_INFO_*` (include/uapi/linux/if_link.h).

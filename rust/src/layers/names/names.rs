@@ -10,7 +10,7 @@ use crate::layers::names::entries::{
 // End: written by tables/generate.
 use crate::layers::nla_frame::Family;
 
-/// The kernel's name of a type of attributes, as `IFLA_VXLAN_ID`: at most 31 bytes.
+/// The kernel's name of a type of attributes, as `IFLA_VXLAN_ID`: at most 47 bytes.
 ///
 /// The type is without its two flag bits. `None` if the type has no row in that family, and for
 /// families whose attributes are all opaque. The kernel has one name for attributes of gre and
@@ -71,7 +71,12 @@ fn family_names(family: Family) -> &'static [Entry] {
         | Family::Tun
         | Family::Vlan
         | Family::Wireguard
-        | Family::VlanQosMapping => &[],
+        | Family::VlanQosMapping
+        | Family::BondAdInfo
+        | Family::BridgeQuerierState
+        | Family::CanTdc
+        | Family::CanCtrlModeExt
+        | Family::CanPwm => &[],
         // End: written by tables/generate.
     }
 }

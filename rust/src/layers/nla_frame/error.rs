@@ -88,6 +88,16 @@ pub enum Family {
     Xfrm,
     /// The maps of priorities of `vlan` links.
     VlanQosMapping,
+    /// `ad_info` of `bond` links.
+    BondAdInfo,
+    /// `mcast_querier_state` of `bridge` links.
+    BridgeQuerierState,
+    /// `tdc` and `xl_tdc` of `can` links.
+    CanTdc,
+    /// `ctrlmode_ext` of `can` links.
+    CanCtrlModeExt,
+    /// `xl_pwm` of `can` links.
+    CanPwm,
     // End: written by tables/generate.
 }
 
@@ -135,6 +145,11 @@ impl Family {
             Family::Wwan => "wwan",
             Family::Xfrm => "xfrm",
             Family::VlanQosMapping => "vlanqosmapping",
+            Family::BondAdInfo => "bondadinfo",
+            Family::BridgeQuerierState => "bridgequerierstate",
+            Family::CanTdc => "cantdc",
+            Family::CanCtrlModeExt => "canctrlmodeext",
+            Family::CanPwm => "canpwm",
             // End: written by tables/generate.
         }
     }

@@ -4,6 +4,9 @@
 
 // Begin: written by tables/generate from tables/numbers (modules).
 mod amt;
+mod bond;
+mod bridge;
+mod can;
 mod ethernet;
 mod geneve;
 mod gre;
@@ -32,6 +35,16 @@ mod word;
 
 // Begin: written by tables/generate from tables/numbers (types).
 pub use amt::AmtMode;
+pub use bond::{
+    BondAdSelect, BondAllPortActive, BondArpAllTargets, BondArpValidate, BondFailOverMac,
+    BondLacpRate, BondMode, BondPortState, BondPrimaryReselect, BondXmitHashPolicy, ChurnState,
+    LacpState, LacpState16, MiiStatus, OnOff,
+};
+pub use bridge::{
+    BridgeBooleanOptionFlags, BridgeMulticastRouterType, BridgePortState, BridgeStpMode,
+    BridgeStpState,
+};
+pub use can::{CanCtrlModeFlags, CanState};
 pub use ethernet::EthernetProtocol;
 pub use geneve::GeneveDf;
 pub use gre::{ErSpanDir, GreEncapFlags, GreEncapType, GreIOFlags};

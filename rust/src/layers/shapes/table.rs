@@ -54,7 +54,12 @@ pub fn table_shape(family: Family, kind: u16) -> Option<Shape> {
         | Family::Tun
         | Family::Vlan
         | Family::Wireguard
-        | Family::VlanQosMapping => None,
+        | Family::VlanQosMapping
+        | Family::BondAdInfo
+        | Family::BridgeQuerierState
+        | Family::CanTdc
+        | Family::CanCtrlModeExt
+        | Family::CanPwm => None,
     }
 }
 

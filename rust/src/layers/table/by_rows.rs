@@ -27,9 +27,10 @@
 //! A row with a payload that the family reads and writes itself has the word `custom` as its shape.
 //! After the rows, `; else Ipv4Flags` names variants that the family reads and writes before it
 //! consults the list. Types and functions in the list are resolved where the family expands it:
-//! `Flags`, and [`Text`] for a name, must be in scope there.
+//! `Flags`, [`Text`] for a name, and [`Bytes`] for opaque bytes, must be in scope there.
 //!
 //! [`Text`]: crate::layers::nla_frame::Text
+//! [`Bytes`]: crate::layers::nla_frame::Bytes
 
 /// Stores the decoded value of an attribute, by the rows: `rows!(store_by_rows(slot, decoded))`.
 #[doc(hidden)]
@@ -69,6 +70,9 @@ macro_rules! store_row {
     };
     ($slot:ident, $datum:ident, name, $family:ident $variant:ident) => {
         $slot.store($family::$variant(Text::copy_of($datum.text_or_empty())?))
+    };
+    ($slot:ident, $datum:ident, raw, $family:ident $variant:ident) => {
+        $slot.store($family::$variant(Bytes::copy_of($datum.bytes_or_empty())?))
     };
     (
         $slot:ident, $datum:ident, empty_or_byte,
@@ -222,6 +226,9 @@ macro_rules! encodable_row {
     };
     ($number:literal, name, $x:ident) => {
         $crate::layers::table::encodables::name($number, $x.as_str())
+    };
+    ($number:literal, raw, $x:ident) => {
+        $crate::layers::table::encodables::raw($number, $x.as_slice())
     };
     ($number:literal, $shape:ident, $x:ident) => {
         $crate::layers::table::encodables::$shape($number, *$x)

@@ -91,6 +91,13 @@ pub fn name<'a>(kind: u16, text: &'a str) -> Encodable<'a> {
     Encodable::Typed(kind, Shape::Name, Datum::Text(text))
 }
 
+/// Opaque bytes.
+#[must_use]
+#[inline(always)]
+pub fn raw<'a>(kind: u16, bytes: &'a [u8]) -> Encodable<'a> {
+    Encodable::Typed(kind, Shape::Raw, Datum::Bytes(bytes))
+}
+
 /// An IPv4 address.
 #[must_use]
 #[inline(always)]

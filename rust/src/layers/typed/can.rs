@@ -5,13 +5,18 @@
 
 use crate::compat::AllocError;
 use crate::layers::nla_frame::{
-    DecodeError, DefaultNla, ExactEq, Family, HeaderCount, Nla, NlaBuffer, Parseable,
+    DecodeError, DefaultNla, ExactEq, Family, HeaderCount, Nla, NlaBuffer, Nlas, Parseable,
 };
+use crate::layers::numbers::{CanCtrlModeFlags, CanState};
 use crate::layers::payloads::{CanBerrCounter, CanBitTiming, CanBitTimingConst, Numbers};
 use crate::layers::table::{
     Both, CustomRows, Decoded, Encodable, LinkFamily, Lookup, PayloadRow, RowFamily, Slot,
     TableFamily, encodable_by_rows, store_by_rows, typed_lookup,
 };
+use crate::layers::typed::can_ctrl_mode_ext::CanCtrlModeExt;
+use crate::layers::typed::can_pwm::CanPwm;
+use crate::layers::typed::can_tdc::CanTdc;
+use bitflags::Flags;
 use core::marker::PhantomData;
 
 /// An attribute in the data of a `can` link, a CAN device (include/uapi/linux/can/netlink.h).
@@ -24,10 +29,10 @@ pub enum InfoCan {
     /// Frequency of the clock, in hertz (`IFLA_CAN_CLOCK`), little-endian.
     Clock(u32),
     /// State (`IFLA_CAN_STATE`), little-endian.
-    State(u32),
+    State(CanState),
     /// The mask of the modes to change, and the modes (`IFLA_CAN_CTRLMODE`, `struct can_ctrlmode`),
     /// each little-endian.
-    CtrlMode((u32, u32)),
+    CtrlMode((CanCtrlModeFlags, CanCtrlModeFlags)),
     /// Delay until a restart after the bus was off, in milliseconds (`IFLA_CAN_RESTART_MS`),
     /// little-endian.
     RestartMs(u32),
@@ -53,11 +58,22 @@ pub enum InfoCan {
     DataBitRateConst(Numbers<u32>),
     /// Highest bit rate, in bits per second (`IFLA_CAN_BITRATE_MAX`), little-endian.
     BitRateMax(u32),
+    /// Transmitter delay compensation of CAN FD (`IFLA_CAN_TDC`), a nested list.
+    Tdc(Nlas<CanTdc>),
+    /// Modes that the device has (`IFLA_CAN_CTRLMODE_EXT`), a nested list.
+    CtrlModeExt(Nlas<CanCtrlModeExt>),
     /// Timing of the bits of data of CAN XL (`IFLA_CAN_XL_DATA_BITTIMING`), 32 bytes.
     XlDataBitTiming(CanBitTiming),
+    /// Limits of the timing of the bits of data of CAN XL (`IFLA_CAN_XL_DATA_BITTIMING_CONST`), 48
+    /// bytes.
+    XlDataBitTimingConst(CanBitTimingConst),
     /// Bit rates of data of CAN XL that the device has, in bits per second
     /// (`IFLA_CAN_XL_DATA_BITRATE_CONST`), an array of numbers, each little-endian.
     XlDataBitRateConst(Numbers<u32>),
+    /// Transmitter delay compensation of CAN XL (`IFLA_CAN_XL_TDC`), a nested list.
+    XlTdc(Nlas<CanTdc>),
+    /// Pulse width modulation of CAN XL (`IFLA_CAN_XL_PWM`), a nested list.
+    XlPwm(Nlas<CanPwm>),
     /// An opaque attribute, of a type that has no variant here, kept verbatim.
     Other(DefaultNla),
 }
@@ -68,8 +84,8 @@ macro_rules! rows {
             (1, custom, BitTiming),
             (2, custom, BitTimingConst),
             (3, le32, Clock),
-            (4, le32, State),
-            (5, flag_pair, CtrlMode),
+            (4, le32, State as CanState),
+            (5, flag_pair, CtrlMode by flags_of, pair_of),
             (6, le32, RestartMs),
             (7, le32, Restart),
             (8, custom, BerrCounter),
@@ -80,8 +96,13 @@ macro_rules! rows {
             (13, custom, BitRateConst),
             (14, custom, DataBitRateConst),
             (15, le32, BitRateMax),
+            (16, custom, Tdc),
+            (17, custom, CtrlModeExt),
             (18, custom, XlDataBitTiming),
+            (19, custom, XlDataBitTimingConst),
             (20, custom, XlDataBitRateConst),
+            (21, custom, XlTdc),
+            (22, custom, XlPwm),
         }
     };
 }
@@ -109,6 +130,21 @@ impl RowFamily for InfoCan {
     fn to_encodable(&self) -> Encodable<'_> {
         rows!(encodable_by_rows self)
     }
+}
+
+/// Makes flags and their mask from two numbers.
+fn flags_of(pair: (u32, u32)) -> (CanCtrlModeFlags, CanCtrlModeFlags) {
+    let (flags, mask) = pair;
+    (
+        CanCtrlModeFlags::from_bits_retain(flags),
+        CanCtrlModeFlags::from_bits_retain(mask),
+    )
+}
+
+/// The two numbers of flags and their mask.
+fn pair_of(under: (CanCtrlModeFlags, CanCtrlModeFlags)) -> (u32, u32) {
+    let (flags, mask) = under;
+    (flags.bits(), mask.bits())
 }
 
 /// The row of `IFLA_CAN_BITTIMING`. Wherever it is named, `T` is `()`.
@@ -303,6 +339,54 @@ impl<T> PayloadRow<InfoCan> for DataBitRateConstRow<T> {
     }
 }
 
+/// The row of `IFLA_CAN_TDC`. Wherever it is named, `T` is `()`.
+pub struct TdcRow<T> {
+    of: PhantomData<T>,
+}
+
+impl<T> PayloadRow<InfoCan> for TdcRow<T> {
+    type Payload = Nlas<CanTdc>;
+
+    const NUMBER: u16 = 16;
+
+    const NESTED: bool = true;
+
+    fn wrap(payload: Nlas<CanTdc>) -> InfoCan {
+        InfoCan::Tdc(payload)
+    }
+
+    fn payload(value: &InfoCan) -> Option<&Nlas<CanTdc>> {
+        match value {
+            InfoCan::Tdc(payload) => Some(payload),
+            _ => None,
+        }
+    }
+}
+
+/// The row of `IFLA_CAN_CTRLMODE_EXT`. Wherever it is named, `T` is `()`.
+pub struct CtrlModeExtRow<T> {
+    of: PhantomData<T>,
+}
+
+impl<T> PayloadRow<InfoCan> for CtrlModeExtRow<T> {
+    type Payload = Nlas<CanCtrlModeExt>;
+
+    const NUMBER: u16 = 17;
+
+    const NESTED: bool = true;
+
+    fn wrap(payload: Nlas<CanCtrlModeExt>) -> InfoCan {
+        InfoCan::CtrlModeExt(payload)
+    }
+
+    fn payload(value: &InfoCan) -> Option<&Nlas<CanCtrlModeExt>> {
+        match value {
+            InfoCan::CtrlModeExt(payload) => Some(payload),
+            _ => None,
+        }
+    }
+}
+
 /// The row of `IFLA_CAN_XL_DATA_BITTIMING`. Wherever it is named, `T` is `()`.
 pub struct XlDataBitTimingRow<T> {
     of: PhantomData<T>,
@@ -322,6 +406,30 @@ impl<T> PayloadRow<InfoCan> for XlDataBitTimingRow<T> {
     fn payload(value: &InfoCan) -> Option<&CanBitTiming> {
         match value {
             InfoCan::XlDataBitTiming(payload) => Some(payload),
+            _ => None,
+        }
+    }
+}
+
+/// The row of `IFLA_CAN_XL_DATA_BITTIMING_CONST`. Wherever it is named, `T` is `()`.
+pub struct XlDataBitTimingConstRow<T> {
+    of: PhantomData<T>,
+}
+
+impl<T> PayloadRow<InfoCan> for XlDataBitTimingConstRow<T> {
+    type Payload = CanBitTimingConst;
+
+    const NUMBER: u16 = 19;
+
+    const NESTED: bool = false;
+
+    fn wrap(payload: CanBitTimingConst) -> InfoCan {
+        InfoCan::XlDataBitTimingConst(payload)
+    }
+
+    fn payload(value: &InfoCan) -> Option<&CanBitTimingConst> {
+        match value {
+            InfoCan::XlDataBitTimingConst(payload) => Some(payload),
             _ => None,
         }
     }
@@ -351,17 +459,71 @@ impl<T> PayloadRow<InfoCan> for XlDataBitRateConstRow<T> {
     }
 }
 
+/// The row of `IFLA_CAN_XL_TDC`. Wherever it is named, `T` is `()`.
+pub struct XlTdcRow<T> {
+    of: PhantomData<T>,
+}
+
+impl<T> PayloadRow<InfoCan> for XlTdcRow<T> {
+    type Payload = Nlas<CanTdc>;
+
+    const NUMBER: u16 = 21;
+
+    const NESTED: bool = true;
+
+    fn wrap(payload: Nlas<CanTdc>) -> InfoCan {
+        InfoCan::XlTdc(payload)
+    }
+
+    fn payload(value: &InfoCan) -> Option<&Nlas<CanTdc>> {
+        match value {
+            InfoCan::XlTdc(payload) => Some(payload),
+            _ => None,
+        }
+    }
+}
+
+/// The row of `IFLA_CAN_XL_PWM`. Wherever it is named, `T` is `()`.
+pub struct XlPwmRow<T> {
+    of: PhantomData<T>,
+}
+
+impl<T> PayloadRow<InfoCan> for XlPwmRow<T> {
+    type Payload = Nlas<CanPwm>;
+
+    const NUMBER: u16 = 22;
+
+    const NESTED: bool = true;
+
+    fn wrap(payload: Nlas<CanPwm>) -> InfoCan {
+        InfoCan::XlPwm(payload)
+    }
+
+    fn payload(value: &InfoCan) -> Option<&Nlas<CanPwm>> {
+        match value {
+            InfoCan::XlPwm(payload) => Some(payload),
+            _ => None,
+        }
+    }
+}
+
 impl TableFamily for InfoCan {
     type Custom = Both<
         Both<
-            (BitTimingRow<()>, (BitTimingConstRow<()>, ())),
-            Both<(BerrCounterRow<()>, ()), (DataBitTimingRow<()>, (DataBitTimingConstRow<()>, ()))>,
+            Both<(BitTimingRow<()>, ()), (BitTimingConstRow<()>, (BerrCounterRow<()>, ()))>,
+            Both<
+                (DataBitTimingRow<()>, (DataBitTimingConstRow<()>, ())),
+                (TerminationConstRow<()>, (BitRateConstRow<()>, ())),
+            >,
         >,
         Both<
-            (TerminationConstRow<()>, (BitRateConstRow<()>, ())),
             Both<
-                (DataBitRateConstRow<()>, ()),
-                (XlDataBitTimingRow<()>, (XlDataBitRateConstRow<()>, ())),
+                (DataBitRateConstRow<()>, (TdcRow<()>, ())),
+                (CtrlModeExtRow<()>, (XlDataBitTimingRow<()>, ())),
+            >,
+            Both<
+                (XlDataBitTimingConstRow<()>, (XlDataBitRateConstRow<()>, ())),
+                (XlTdcRow<()>, (XlPwmRow<()>, ())),
             >,
         >,
     >;
@@ -396,7 +558,8 @@ impl Nla for InfoCan {
     }
 }
 
-/// Reads the attribute. A payload of invalid length is rejected as `(Can, type, Length)`.
+/// Reads the attribute. A payload of invalid length is rejected as `(Can, type, Length)`. A list is
+/// rejected with the first error in it: that of an attribute inside, or `(Frame, 0, Header)`.
 impl<'a> Parseable<NlaBuffer<'a>> for InfoCan {
     #[inline]
     fn parse(buffer: &NlaBuffer<'a>) -> Result<InfoCan, DecodeError> {

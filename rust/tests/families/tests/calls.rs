@@ -146,6 +146,9 @@ const LOOKUPS: &[(Family, u16, Lookup)] = &[
     (Family::BatAdv, 1, Lookup::Is(Shape::Name)),
     (Family::Tun, 1, Lookup::Unknown),
     (Family::Vlan, 1, Lookup::Unknown),
+    (Family::Bridge, 1, Lookup::Unknown),
+    (Family::BondPort, 1, Lookup::Unknown),
+    (Family::BridgePort, 1, Lookup::Unknown),
 ];
 
 /// Families and types, and what the table of the typed layer gives for them.
@@ -159,6 +162,27 @@ const TYPED_LOOKUPS: &[(Family, u16, Lookup)] = &[
     ),
     (Family::Vlan, 6, Lookup::Unknown),
     (Family::VlanQosMapping, 1, Lookup::Is(Shape::FlagPair)),
+    (
+        Family::Bond,
+        23,
+        Lookup::Is(Shape::Nested(Family::BondAdInfo)),
+    ),
+    (Family::BondAdInfo, 5, Lookup::Is(Shape::Mac)),
+    (Family::BondPort, 4, Lookup::Is(Shape::Raw)),
+    (
+        Family::Bridge,
+        47,
+        Lookup::Is(Shape::Nested(Family::BridgeQuerierState)),
+    ),
+    (Family::Bridge, 40, Lookup::Unknown),
+    (Family::BridgeQuerierState, 5, Lookup::Is(Shape::V6)),
+    (Family::BridgeQuerierState, 4, Lookup::Unknown),
+    (Family::BridgePort, 45, Lookup::Is(Shape::U8)),
+    (Family::BridgePort, 26, Lookup::Unknown),
+    (Family::Can, 21, Lookup::Is(Shape::Nested(Family::CanTdc))),
+    (Family::CanTdc, 9, Lookup::Is(Shape::Le32)),
+    (Family::CanCtrlModeExt, 1, Lookup::Is(Shape::Le32)),
+    (Family::CanPwm, 9, Lookup::Is(Shape::Le32)),
 ];
 
 #[test]

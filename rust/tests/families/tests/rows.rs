@@ -8,8 +8,9 @@ use linkinfo::layers::nla_frame::{
     emit_nlas, is_equal, nlas_buffer_len, nlas_fit_len,
 };
 use linkinfo::layers::table::{
-    LinkFamily, Lookup, Shape, first_check, first_measure, first_read, first_same,
-    first_write_canonical, list_check, list_measure, list_read, list_same, list_write_canonical,
+    Difference, LinkFamily, Lookup, Shape, Unmet, first_check, first_measure, first_read,
+    first_same, first_write_canonical, list_check, list_difference, list_error, list_measure,
+    list_read, list_same, list_unmet, list_write_canonical,
 };
 use std::fmt::Debug;
 
@@ -86,9 +87,9 @@ fn has_shape<F: LinkFamily>(ctx: F::Context, rows: &[(u16, Shape)], kind: u16) {
     );
 }
 
-/// Asserts that the family has these shapes by type without flag bits, and no other row up to 39.
+/// Asserts that the family has these shapes by type without flag bits, and no other row up to 63.
 pub(super) fn has_shapes<F: LinkFamily>(ctx: F::Context, rows: &[(u16, Shape)]) {
-    for kind in 0..40 {
+    for kind in 0..64 {
         has_shape::<F>(ctx, rows, kind);
     }
 }
@@ -534,6 +535,60 @@ pub(super) fn compare_lists<F: LinkFamily>(
     }
 }
 
+/// What `list_difference` tells: a family, a type, and the offsets in both lists.
+pub(super) type Differing = (Family, u16, Option<usize>, Option<usize>);
+
+/// What is told of a difference.
+fn told_difference(difference: Option<Difference>) -> Option<Differing> {
+    let it = difference?;
+    Some((it.family, it.kind, it.first, it.second))
+}
+
+/// Asserts what the first difference of two accepted lists is.
+fn differ<F: LinkFamily>(ctx: F::Context, a: &[u8], b: &[u8], wanted: Option<Differing>) {
+    is_accepted::<F>(ctx, a);
+    is_accepted::<F>(ctx, b);
+    let told = told_difference(list_difference::<F>(a, b, ctx));
+    assert_is(("difference", a, b), told, wanted);
+}
+
+/// Asserts of each pair of accepted lists what their first difference is.
+pub(super) fn lists_differ<F: LinkFamily>(
+    ctx: F::Context,
+    pairs: &[(&[u8], &[u8], Option<Differing>)],
+) {
+    for (a, b, wanted) in pairs {
+        differ::<F>(ctx, a, b, *wanted);
+    }
+}
+
+/// What `list_unmet` tells: a family, a type, the offset in the request, and that in the list.
+pub(super) type NotMet = (Family, u16, usize, Option<usize>);
+
+/// What is told of an attribute that is not met.
+fn told_unmet(unmet: Option<Unmet>) -> Option<NotMet> {
+    let it = unmet?;
+    Some((it.family, it.kind, it.want, it.have))
+}
+
+/// Asserts what an accepted list does not meet of an accepted request.
+fn does_not_meet<F: LinkFamily>(ctx: F::Context, have: &[u8], want: &[u8], wanted: Option<NotMet>) {
+    is_accepted::<F>(ctx, have);
+    is_accepted::<F>(ctx, want);
+    let told = told_unmet(list_unmet::<F>(have, want, ctx));
+    assert_is(("unmet", have, want), told, wanted);
+}
+
+/// Asserts of each accepted list and request what the list does not meet of the request.
+pub(super) fn meet_requests<F: LinkFamily>(
+    ctx: F::Context,
+    pairs: &[(&[u8], &[u8], Option<NotMet>)],
+) {
+    for (have, want, wanted) in pairs {
+        does_not_meet::<F>(ctx, have, want, *wanted);
+    }
+}
+
 /// Asserts that the list is read as the values, with this number of headers examined.
 pub(super) fn is_list_read<F: LinkFamily + ExactEq>(
     ctx: F::Context,
@@ -594,4 +649,55 @@ pub(super) fn is_list_of_other<F: HoldsOthers + LinkFamily + ExactEq>(
     let value = F::from_other(kept(kind, payload));
     values.try_push(value).expect("memory");
     is_list_of(ctx, bytes, values.as_slice());
+}
+
+/// Asserts that the list is accepted, with this number of headers examined, and returns its values,
+/// which are emitted as the canonical list.
+fn values_of_list<F>(bytes: &[u8], headers: usize, canonical: &[u8]) -> Vec<F>
+where
+    F: LinkFamily<Context = ()> + ExactEq,
+{
+    let mut count = HeaderCount::new();
+    let values = list_read::<F>(bytes, (), &mut count).expect("a list");
+    is_list_read((), bytes, values.as_slice(), headers);
+    checks_list::<F>((), bytes, (Ok(()), headers));
+    list_is_emitted(values.as_slice(), canonical);
+    values
+}
+
+/// Asserts that each list is read as the values that `Debug` writes as its text, with this number
+/// of headers examined, and that they are emitted as the canonical list.
+pub(super) fn lists_are_read<F>(lists: &[(&[u8], &str, usize, &[u8])])
+where
+    F: LinkFamily<Context = ()> + ExactEq + Debug,
+{
+    for (bytes, text, headers, canonical) in lists {
+        let values: Vec<F> = values_of_list(bytes, *headers, canonical);
+        is_text(bytes, &values.as_slice(), text);
+    }
+}
+
+/// Asserts that the reply of a kernel is read as so many values, with this number of headers
+/// examined, and that they are emitted as the reply.
+pub(super) fn is_reply<F>(bytes: &[u8], wanted: (usize, usize))
+where
+    F: LinkFamily<Context = ()> + ExactEq,
+{
+    let (number, headers) = wanted;
+    let values: Vec<F> = values_of_list(bytes, headers, bytes);
+    assert_is(("values of reply", bytes), values.len(), number);
+}
+
+/// Asserts that each list is rejected with this error, with this number of headers examined, and
+/// that the error is at this offset.
+pub(super) fn lists_are_rejected<F>(lists: &[(&[u8], DecodeError, usize, usize)])
+where
+    F: LinkFamily<Context = ()>,
+{
+    for (bytes, expected, headers, offset) in lists {
+        checks_list::<F>((), bytes, (Err(*expected), *headers));
+        refuses_list::<F>((), bytes, (*expected, *headers));
+        let found = list_error::<F>(bytes, ());
+        assert_is(("offset of error", bytes), found, Some(*offset));
+    }
 }

@@ -4,15 +4,15 @@
 
 use super::lengths::{has_lists, has_only_length};
 use super::rows::{
-    Checked, HEADER, HasExample, HoldsOthers, UNLISTED, assert_is, checks_list, compare_lists,
-    has_rows_and_others, has_shapes, is_list_read, is_parsed, is_text, list_is_emitted,
-    list_is_written_as, refuses_list,
+    HEADER, HasExample, HoldsOthers, UNLISTED, assert_is, checks_list, compare_lists,
+    has_rows_and_others, has_shapes, is_parsed, list_is_written_as, lists_are_read,
+    lists_are_rejected,
 };
 use crate::support::*;
 use bitflags::Flags;
-use linkinfo::layers::nla_frame::{Cause, DecodeError, DefaultNla, Family, HeaderCount, Nla, Nlas};
+use linkinfo::layers::nla_frame::{Cause, DecodeError, DefaultNla, Family, Nla, Nlas};
 use linkinfo::layers::numbers::{VlanFlags, VlanProtocol};
-use linkinfo::layers::table::{Shape, list_read};
+use linkinfo::layers::table::Shape;
 use linkinfo::layers::typed::{InfoVlan, VlanQosMapping};
 
 /// Types, and the shapes of their rows.
@@ -108,34 +108,35 @@ const REPLY_TEXT: &str = "[Protocol(Ieee8021Ad), Id(7), \
                           IngressQos(Nlas { items: [Mapping((2, 5)), Mapping((6, 7))] }), \
                           EgressQos(Nlas { items: [Mapping((1, 2)), Mapping((3, 4))] })]";
 
-/// Asserts that the list is read as the values that `Debug` writes as this text, with this number
-/// of headers examined, and that they are emitted as the canonical list.
-fn is_nested_list(bytes: &[u8], text: &str, headers: usize, canonical: &[u8]) {
-    let mut count = HeaderCount::new();
-    let values = list_read::<InfoVlan>(bytes, (), &mut count).expect("a list");
-    is_text(bytes, &values.as_slice(), text);
-    is_list_read((), bytes, values.as_slice(), headers);
-    checks_list::<InfoVlan>((), bytes, (Ok(()), headers));
-    list_is_emitted(values.as_slice(), canonical);
-}
-
-#[test]
-fn lists_of_mappings() {
-    is_nested_list(LIST, TEXT, 6, LIST);
-    is_nested_list(REPLY, REPLY_TEXT, 9, REPLY);
-    // An attribute inside of a type without a row is kept with its flag bits.
-    is_nested_list(
+/// Lists, their values as `Debug` writes them, the headers examined, and the canonical lists. An
+/// attribute inside of a type without a row is kept with its flag bits. Flag bits of types with a
+/// row are not written.
+const LISTS: &[(&[u8], &str, usize, &[u8])] = &[
+    (LIST, TEXT, 6, LIST),
+    (REPLY, REPLY_TEXT, 9, REPLY),
+    (
         &[9, 0, 3, 0, 5, 0, 2, 0x80, 7],
         "[EgressQos(Nlas { items: [Other(DefaultNla { kind: 32770, value: Bytes { bytes: [7] } })] })]",
         2,
         &[12, 0, 3, 0, 5, 0, 2, 0x80, 7, 0, 0, 0],
-    );
+    ),
+    (
+        FLAGGED,
+        "[IngressQos(Nlas { items: [Mapping((1, 5))] })]",
+        2,
+        &[16, 0, 4, 0, 12, 0, 1, 0, 1, 0, 0, 0, 5, 0, 0, 0],
+    ),
+];
+
+/// A mapping of received frames, with flag bits in both types.
+const FLAGGED: &[u8] = &[16, 0, 4, 0xc0, 12, 0, 1, 0x40, 1, 0, 0, 0, 5, 0, 0, 0];
+
+#[test]
+fn lists_of_mappings() {
+    lists_are_read::<InfoVlan>(LISTS);
     // Flag bits of types with a row are not written.
-    let flagged = [16, 0, 4, 0xc0, 12, 0, 1, 0x40, 1, 0, 0, 0, 5, 0, 0, 0];
     let canonical = [16, 0, 4, 0, 12, 0, 1, 0, 1, 0, 0, 0, 5, 0, 0, 0];
-    let text = "[IngressQos(Nlas { items: [Mapping((1, 5))] })]";
-    is_nested_list(&flagged, text, 2, &canonical);
-    list_is_written_as::<InfoVlan>((), &flagged, &canonical);
+    list_is_written_as::<InfoVlan>((), FLAGGED, &canonical);
     let flagged = [16, 0, 3, 0x80, 12, 0, 1, 0x40, 1, 0, 0, 0, 5, 0, 0, 0];
     let canonical = [16, 0, 3, 0, 12, 0, 1, 0, 1, 0, 0, 0, 5, 0, 0, 0];
     list_is_written_as::<InfoVlan>((), &flagged, &canonical);
@@ -174,33 +175,31 @@ const OF_ID: DecodeError = DecodeError {
     cause: Cause::Length,
 };
 
-/// Lists that are rejected, with the error and the headers examined: a mapping of four bytes, also
-/// before a byte that is no header; a payload that is no list; and both errors, in either order.
-const REJECTED: &[(&[u8], Checked)] = &[
-    (&[12, 0, 3, 0, 8, 0, 1, 0, 0, 0, 0, 0], (Err(OF_MAPPING), 2)),
-    (
-        &[13, 0, 3, 0, 8, 0, 1, 0, 0, 0, 0, 0, 1],
-        (Err(OF_MAPPING), 2),
-    ),
-    (&[5, 0, 3, 0, 1, 0, 0, 0], (Err(HEADER), 1)),
-    (&[8, 0, 4, 0, 3, 0, 1, 0], (Err(HEADER), 2)),
+/// Lists that are rejected, the errors, the headers examined, and the offsets of the errors: a
+/// mapping of four bytes, also before a byte that is no header; a payload that is no list; and both
+/// errors, in either order.
+const REJECTED: &[(&[u8], DecodeError, usize, usize)] = &[
+    (&[12, 0, 3, 0, 8, 0, 1, 0, 0, 0, 0, 0], OF_MAPPING, 2, 4),
+    (&[13, 0, 3, 0, 8, 0, 1, 0, 0, 0, 0, 0, 1], OF_MAPPING, 2, 4),
+    (&[5, 0, 3, 0, 1, 0, 0, 0], HEADER, 1, 4),
+    (&[8, 0, 4, 0, 3, 0, 1, 0], HEADER, 2, 4),
     (
         &[5, 0, 1, 0, 7, 0, 0, 0, 12, 0, 3, 0, 8, 0, 1, 0, 0, 0, 0, 0],
-        (Err(OF_ID), 1),
+        OF_ID,
+        1,
+        0,
     ),
     (
         &[12, 0, 3, 0, 8, 0, 1, 0, 0, 0, 0, 0, 5, 0, 1, 0, 7, 0, 0, 0],
-        (Err(OF_MAPPING), 2),
+        OF_MAPPING,
+        2,
+        4,
     ),
 ];
 
 #[test]
 fn rejected_lists() {
-    for (bytes, (checked, headers)) in REJECTED {
-        checks_list::<InfoVlan>((), bytes, (*checked, *headers));
-        let expected = checked.err().expect("an error");
-        refuses_list::<InfoVlan>((), bytes, (expected, *headers));
-    }
+    lists_are_rejected::<InfoVlan>(REJECTED);
 }
 
 /// Asserts that of one attribute in a list of mappings, with zeros of each length up to 70, a

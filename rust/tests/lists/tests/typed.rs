@@ -2,25 +2,29 @@
 
 //! Lists over the typed layer: worked strings of links with types, and links that are built.
 
-use super::assertions::{
-    HEADER_ERROR, assert_emitted, assert_equal, assert_holds, bytes_of, default_nla, nlas,
-};
+use super::assertions::{HEADER_ERROR, assert_emitted, assert_equal, assert_holds, bytes_of, nlas};
 use super::dumps::dumps;
 use crate::support::*;
 use linkinfo::layers::link::typed::{
-    self, InfoData, InfoDsa, InfoHsr, InfoPortData, InfoTun, InfoVlan, LinkInfo, Typed,
-    VecLinkInfo, VlanQosMapping,
+    self, Addresses, InfoBond, InfoBondPort, InfoData, InfoDsa, InfoHsr, InfoPortData, InfoTun,
+    InfoVlan, LinkInfo, Typed, VecLinkInfo, VlanQosMapping,
 };
 use linkinfo::layers::link::{
-    Bytes, CanonError, CanonIntoError, Cause, DecodeError, Difference, Family, Flags, HeaderCount,
-    HsrProtocol, InfoBondPort, InfoKind, InfoPortKind, TunType, VlanFlags, VlanProtocol, check,
-    check_counted_of, first_difference, first_unmet, same as same_at_root,
+    BondMode, BondPortState, Bytes, CanonError, CanonIntoError, Cause, DecodeError, Difference,
+    Family, Flags, HeaderCount, HsrProtocol, InfoKind, InfoPortKind, TunType, VlanFlags,
+    VlanProtocol, check, check_counted_of, first_difference, first_unmet, same as same_at_root,
 };
+use std::net::Ipv6Addr;
 
 /// Strings that are rejected, the errors as they are displayed, and the headers examined: an ID of
 /// one byte; a mapping of four bytes, also before a byte that is no header; a payload that is no
 /// list; both errors, in either order; an address of five bytes of an `hsr` link; and an index of
-/// three of a `dsa` link.
+/// three of a `dsa` link. Of `can` links: a number of three bytes in each inner list, arrays of
+/// three and of two bytes, and counters of two. Of bonds: an address of five bytes, a byte after an
+/// address that is no header, an IPv6 address of four bytes, and a hardware address of five in
+/// `IFLA_BOND_AD_INFO`. Of bridges: an identifier of seven bytes, an empty address in
+/// `IFLA_BR_MCAST_QUERIER_STATE`, and a timer of one byte. Of ports: a state of LACP of one byte, a
+/// state of two, and a number of one.
 const REJECTED: &[(&str, &str, usize)] = &[
     (
         "09000100 766c616e 00000000 09000200 05000100 07",
@@ -62,11 +66,101 @@ const REJECTED: &[(&str, &str, usize)] = &[
         "dsa 1 length",
         3,
     ),
+    (
+        "08000100 63616e00 0f000200 0b001080 07000800 010203",
+        "cantdc 8 length",
+        4,
+    ),
+    (
+        "08000100 63616e00 0f000200 0b001580 07000800 010203",
+        "cantdc 8 length",
+        4,
+    ),
+    (
+        "08000100 63616e00 0f000200 0b001680 07000800 010203",
+        "canpwm 8 length",
+        4,
+    ),
+    (
+        "08000100 63616e00 0f000200 0b001180 07000100 010203",
+        "canctrlmodeext 1 length",
+        4,
+    ),
+    (
+        "08000100 63616e00 0b000200 07000c00 010203",
+        "can 12 length",
+        3,
+    ),
+    (
+        "08000100 63616e00 0a000200 06000d00 0102",
+        "can 13 length",
+        3,
+    ),
+    (
+        "08000100 63616e00 0a000200 06000800 0102",
+        "can 8 length",
+        3,
+    ),
+    (
+        "09000100 626f6e64 00000000 11000200 0d000800 09000300 0a000001 00",
+        "bond 8 length",
+        4,
+    ),
+    (
+        "09000100 626f6e64 00000000 11000200 0d000800 08000000 0a000001 01",
+        "frame 0 header",
+        4,
+    ),
+    (
+        "09000100 626f6e64 00000000 10000200 0c001f80 08000000 0a000001",
+        "bond 31 length",
+        4,
+    ),
+    (
+        "09000100 626f6e64 00000000 11000200 0d001780 09000500 01020304 05",
+        "bondadinfo 5 length",
+        4,
+    ),
+    (
+        "0b000100 62726964 67650000 0f000200 0b000b00 00000000 000000",
+        "bridge 11 length",
+        3,
+    ),
+    (
+        "0b000100 62726964 67650000 0c000200 08002f80 04000500",
+        "bridgequerierstate 5 length",
+        4,
+    ),
+    (
+        "0b000100 62726964 67650000 09000200 05001000 ff",
+        "bridge 16 length",
+        3,
+    ),
+    (
+        "09000400 626f6e64 00000000 09000500 05000800 ff",
+        "bondport 8 length",
+        3,
+    ),
+    (
+        "0b000400 62726964 67650000 0a000500 06000100 0102",
+        "bridgeport 1 length",
+        3,
+    ),
+    (
+        "0b000400 62726964 67650000 09000500 05002c00 02",
+        "bridgeport 44 length",
+        3,
+    ),
 ];
 
 /// Strings, their canonical encodings, and the headers examined: flag bits of an ID; those of a
 /// list and of a mapping; those of an attribute of a list without a row; an empty list; and a
-/// boolean and an unknown attribute of a `tun` link.
+/// boolean and an unknown attribute of a `tun` link. Of `can` links: `NLA_F_NESTED` on a list, an
+/// unknown attribute in it, and arrays. Of bonds: addresses of any types, `NLA_F_NESTED` on those
+/// of IPv6 alone, a switch that is 2, an unknown attribute in `IFLA_BOND_AD_INFO`. Of bridges: a
+/// boolean, a command with a payload, padding, and an attribute of padding in
+/// `IFLA_BR_MCAST_QUERIER_STATE`. Of ports: a hardware address of 20 bytes, and a switch that is 2.
+/// Data of an `ovpn` link, and an attribute of an `xfrm` link that is kept verbatim.
 const CANONICAL: &[(&str, &str, usize)] = &[
     (
         "09000100 766c616e 00000000 0a000200 060001c0 0700",
@@ -98,9 +192,95 @@ const CANONICAL: &[(&str, &str, usize)] = &[
         "08000100 74756e00 0c000200 05000a80 ff000000",
         3,
     ),
+    (
+        "08000100 63616e00 08000200 04001000",
+        "08000100 63616e00 08000200 04001080",
+        3,
+    ),
+    (
+        "08000100 63616e00 08000200 040010c0",
+        "08000100 63616e00 08000200 04001080",
+        3,
+    ),
+    (
+        "08000100 63616e00 0f000200 0b001180 07000200 010203",
+        "08000100 63616e00 10000200 0c001180 07000200 01020300",
+        4,
+    ),
+    (
+        "08000100 63616e00 0a000200 06000c00 0102",
+        "08000100 63616e00 0c000200 06000c00 01020000",
+        3,
+    ),
+    (
+        "08000100 63616e00 08000200 04000d00",
+        "08000100 63616e00 08000200 04000d00",
+        3,
+    ),
+    (
+        "09000100 626f6e64 00000000 18000200 14000800 08000900 0a000001 08000380 0a000002",
+        "09000100 626f6e64 00000000 18000200 14000800 08000000 0a000001 08000100 0a000002",
+        5,
+    ),
+    (
+        "09000100 626f6e64 00000000 1c000200 18001f00 14000500 fe800000 00000000 00000000 00000001",
+        "09000100 626f6e64 00000000 1c000200 18001f80 14000000 fe800000 00000000 00000000 00000001",
+        4,
+    ),
+    (
+        "09000100 626f6e64 00000000 09000200 05000600 02",
+        "09000100 626f6e64 00000000 0c000200 05000600 02000000",
+        3,
+    ),
+    (
+        "09000100 626f6e64 00000000 0c000200 08001780 04000600",
+        "09000100 626f6e64 00000000 0c000200 08001700 04000600",
+        4,
+    ),
+    (
+        "0b000100 62726964 67650000 09000200 05000700 ff",
+        "0b000100 62726964 67650000 0c000200 05000700 01000000",
+        3,
+    ),
+    (
+        "0b000100 62726964 67650000 0c000200 08001500 01020304",
+        "0b000100 62726964 67650000 08000200 04001500",
+        3,
+    ),
+    (
+        "0b000100 62726964 67650000 0b000200 07002880 010203",
+        "0b000100 62726964 67650000 0c000200 07002880 01020300",
+        3,
+    ),
+    (
+        "0b000100 62726964 67650000 0d000200 09002f00 05000440 07",
+        "0b000100 62726964 67650000 10000200 0c002f80 05000440 07000000",
+        4,
+    ),
+    (
+        "09000400 626f6e64 00000000 1c000500 18000400 01020304 05060708 090a0b0c 0d0e0f10 11121314",
+        "09000400 626f6e64 00000000 1c000500 18000400 01020304 05060708 090a0b0c 0d0e0f10 11121314",
+        3,
+    ),
+    (
+        "0b000400 62726964 67650000 09000500 05002b00 02",
+        "0b000400 62726964 67650000 0c000500 05002b00 02000000",
+        3,
+    ),
+    (
+        "09000100 6f76706e 00000000 07000200 010203",
+        "09000100 6f76706e 00000000 07000200 01020300",
+        2,
+    ),
+    (
+        "09000100 7866726d 00000000 09000200 05000380 ff",
+        "09000100 7866726d 00000000 0c000200 05000380 ff000000",
+        3,
+    ),
 ];
 
-/// Pairs of strings, and whether they are equivalent.
+/// Pairs of strings, and whether they are equivalent: also flag bits of a list of a `can` link, and
+/// addresses of a bond under other types, and in another order.
 const PAIRS: &[(&str, &str, bool)] = &[
     (
         "09000100 766c616e 00000000 08000200 04000300",
@@ -116,6 +296,21 @@ const PAIRS: &[(&str, &str, bool)] = &[
         "09000100 766c616e 00000000 14000200 10000380 0c000140 00000000 05000000",
         "09000100 766c616e 00000000 14000200 10000300 0c000100 00000000 05000000",
         true,
+    ),
+    (
+        "08000100 63616e00 08000200 04001000",
+        "08000100 63616e00 08000200 040010c0",
+        true,
+    ),
+    (
+        "09000100 626f6e64 00000000 18000200 14000800 08000900 0a000001 08000380 0a000002",
+        "09000100 626f6e64 00000000 18000200 14000880 08000000 0a000001 08000000 0a000002",
+        true,
+    ),
+    (
+        "09000100 626f6e64 00000000 18000200 14000800 08000000 0a000001 08000100 0a000002",
+        "09000100 626f6e64 00000000 18000200 14000800 08000100 0a000002 08000000 0a000001",
+        false,
     ),
 ];
 
@@ -174,6 +369,23 @@ fn rejected_links() {
     for (text, said, headers) in REJECTED {
         assert_rejected(text, said, *headers);
     }
+}
+
+/// An address of three bytes in the data of a bond, which the typed layer rejects, and a byte after
+/// the data that is no header, which the calls of the root reject.
+const EARLIER: &str = "09000100 626f6e64 00000000 15000200 11000800 07000000 01020300 08000100 \
+                       01020304 ff";
+
+#[test]
+fn earlier_fault() {
+    let bytes = bytes_of(EARLIER);
+    let error = DecodeError {
+        family: Family::Bond,
+        kind: 8,
+        cause: Cause::Length,
+    };
+    assert_refused(&bytes, error);
+    assert_equal(&EARLIER, &check(&bytes), &Err(HEADER_ERROR));
 }
 
 /// A vlan link whose data is one attribute of a type, of this many zeros.
@@ -342,8 +554,9 @@ fn assert_as_at_root(name: &str, have: &[u8], want: &[u8]) {
     assert_equal(&name, &written.as_slice(), &want);
 }
 
-/// Replies for other links than vlan links have the answers of the calls that keep all attributes
-/// of these families verbatim.
+/// Replies for links of other kinds, those of bridges and tun devices among them: the typed layer
+/// accepts each and writes it as it is, and answers of each and the one before it what the calls
+/// that keep all attributes of these families verbatim answer.
 #[test]
 fn replies_for_other_links() {
     let mut before: &[u8] = &[];
@@ -358,7 +571,7 @@ fn replies_for_other_links() {
 }
 
 #[test]
-fn equivalent_vlan_links() {
+fn equivalent_links() {
     for (first, second, same) in PAIRS {
         let a = bytes_of(first);
         let b = bytes_of(second);
@@ -371,7 +584,8 @@ fn equivalent_vlan_links() {
 
 /// Strings that are rejected inside data at offset 12, and the offset of the innermost attribute
 /// that has the error, or of the bytes that are no header: an ID; the first mapping of a list; the
-/// second one; a byte in place of the first mapping; and one after it.
+/// second one; a byte in place of the first mapping; and one after it. Of bonds: an address of five
+/// bytes, a byte after an address, and an address in `IFLA_BOND_AD_INFO`.
 const INNER: &[(&str, usize)] = &[
     ("09000100 766c616e 00000000 09000200 05000100 07", 16),
     (
@@ -387,10 +601,22 @@ const INNER: &[(&str, usize)] = &[
         "09000100 766c616e 00000000 15000200 11000300 0c000100 01000000 02000000 01",
         32,
     ),
+    (
+        "09000100 626f6e64 00000000 11000200 0d000800 09000300 0a000001 00",
+        16,
+    ),
+    (
+        "09000100 626f6e64 00000000 11000200 0d000800 08000000 0a000001 01",
+        28,
+    ),
+    (
+        "09000100 626f6e64 00000000 11000200 0d001780 09000500 01020304 05",
+        20,
+    ),
 ];
 
 #[test]
-fn places_of_errors_in_vlan_links() {
+fn places_of_errors() {
     for (text, inner) in INNER {
         let bytes = bytes_of(text);
         let at = typed::check_at(&bytes).err();
@@ -439,8 +665,8 @@ fn differences_in_lists_of_vlan_links() {
 }
 
 /// Lists, and what the mappings 1 to 2 and 3 to 4 do not meet of them: nothing of either mapping,
-/// in any order, and with a flag bit of its type; one that is not there; an attribute of a mapping
-/// list that has another type; and a list that is not there.
+/// in any order, and with a flag bit of its type, nor of an empty list; one that is not there; an
+/// attribute of a mapping list that has another type; and a list that is not there.
 const WANTED: &[(&str, Option<(Family, u16, usize)>)] = &[
     (TWO, None),
     (TURNED, None),
@@ -556,12 +782,29 @@ fn built_hsr_and_dsa_links() {
     assert_link(InfoKind::Dsa, data, DSA);
 }
 
+/// A request for a bond by LACP with a target of neighbor solicitations, whose attribute is written
+/// with `NLA_F_NESTED`.
+const BOND: &str = "09000100 626f6e64 00000000 24000200 05000100 04000000 18001f80 14000000 \
+                    fe800000 00000000 00000000 00000001";
+
+#[test]
+fn built_bond() {
+    let target = Ipv6Addr::new(0xfe80, 0, 0, 0, 0, 0, 0, 1);
+    let targets = Vec::try_from_array([target]).expect("memory");
+    let data = [
+        InfoBond::Mode(BondMode::Ieee8023Ad),
+        InfoBond::NsIp6Target(Addresses::new(targets)),
+    ];
+    let data = InfoData::Bond(nlas(data));
+    assert_link(InfoKind::Bond, data, BOND);
+}
+
 /// A port of a bond whose state (`IFLA_BOND_SLAVE_STATE`) is 0, active.
 const PORT: &str = "09000400 626f6e64 00000000 0c000500 05000100 00000000";
 
 #[test]
 fn built_port() {
-    let state = InfoBondPort::Other(default_nla(1, &[0]));
+    let state = InfoBondPort::BondPortState(BondPortState::Active);
     let data = InfoPortData::BondPort(nlas([state]));
     let items = [
         LinkInfo::PortKind(InfoPortKind::Bond),

@@ -10,6 +10,7 @@ use Rattle.linkinfo.proofs.Placing.{
   rejected_at,
   stops_at,
 }
+use Rattle.linkinfo.proofs.Whole.{rejected_no_memory}
 use Rattle.linkinfo.proofs.placed.check_at_of.Goals as goal
 
 pub loop-next-init : goal.loop-next-init
@@ -78,10 +79,20 @@ returns-in-Err-clause-place g c =
     rejected_at g.P.DataLayer.families c.args.bytes.now c.in-Err.error _ _
     (returns-in-Err-clause-inner g c)
 
+pub returns-in-Err-check_item-clause-no_memory : goal.returns-in-Err-check_item-clause-no_memory
+returns-in-Err-check_item-clause-no_memory g c =
+    rejected_no_memory g.P.DataLayer.families c.families_lawful.ensures c.args.bytes.now _
+    (returns-in-Err-check_item-clause-answer g c)
+
 pub returns-in-Err-clause-answer : goal.returns-in-Err-clause-answer
 returns-in-Err-clause-answer g c =
     reads_error g.P.DataLayer.families c.args.bytes.now _
     (λ i. omega (arith, c.type_inv.bytes i)) (returns-in-Err-clause-place g c).0
+
+pub returns-in-Err-clause-no_memory : goal.returns-in-Err-clause-no_memory
+returns-in-Err-clause-no_memory g c =
+    rejected_no_memory g.P.DataLayer.families c.families_lawful.ensures c.args.bytes.now _
+    (returns-in-Err-clause-answer g c)
 
 pub returns-clause-answer : goal.returns-clause-answer
 returns-clause-answer g c =

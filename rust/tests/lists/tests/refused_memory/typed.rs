@@ -27,6 +27,27 @@ const MAPPING_LENGTH: DecodeError = DecodeError {
     cause: Cause::Length,
 };
 
+/// A bond with two targets of ARP, one of neighbor solicitations, and an attribute about its
+/// aggregator.
+const BOND: [u8; 72] = [
+    9, 0, 1, 0, b'b', b'o', b'n', b'd', 0, 0, 0, 0, 60, 0, 2, 0, 20, 0, 8, 0, 8, 0, 0, 0, 10, 0, 0,
+    1, 8, 0, 1, 0, 10, 0, 0, 2, 24, 0, 31, 0x80, 20, 0, 0, 0, 0xfe, 0x80, 0, 0, 0, 0, 0, 0, 0, 0,
+    0, 0, 0, 0, 0, 1, 12, 0, 23, 0, 6, 0, 1, 0, 1, 0, 0, 0,
+];
+
+/// A bond with a target of ARP, and after it one of three bytes.
+const SHORT_TARGET: [u8; 36] = [
+    9, 0, 1, 0, b'b', b'o', b'n', b'd', 0, 0, 0, 0, 23, 0, 2, 0, 19, 0, 8, 0, 8, 0, 0, 0, 10, 0, 0,
+    1, 7, 0, 1, 0, 1, 2, 3, 0,
+];
+
+/// The error of a target of another length.
+const TARGET_LENGTH: DecodeError = DecodeError {
+    family: Family::Bond,
+    kind: 8,
+    cause: Cause::Length,
+};
+
 /// Parses the bytes, at the second try if an allocation failed.
 fn read_at_last(bytes: &[u8]) -> Result<VecLinkInfo, DecodeError> {
     let first = VecLinkInfo::parse(bytes);
@@ -45,6 +66,19 @@ fn list_of_mappings() {
 fn error_after_a_mapping() {
     let error = read_at_last(&SHORT_MAPPING).err();
     assert_equal(&"error", &error, &Some(MAPPING_LENGTH));
+}
+
+#[test]
+fn lists_of_targets() {
+    let list = read_at_last(&BOND).expect("a list");
+    let emitted = is_emitted(list.as_slice(), &BOND);
+    assert_holds(&"written as it was", emitted);
+}
+
+#[test]
+fn error_after_a_target() {
+    let error = read_at_last(&SHORT_TARGET).err();
+    assert_equal(&"error", &error, &Some(TARGET_LENGTH));
 }
 
 #[test]

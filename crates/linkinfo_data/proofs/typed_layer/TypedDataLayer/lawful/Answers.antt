@@ -6,4 +6,6 @@ pub returns : goal.returns
 returns g c =
     data_lawful _
     (typed_is_layer g.P.LinkPeer g.met.P.LinkPeer.lawful c.supplied_lawful.ensures
-    c.supplied_lawful-2.ensures c.supplied_lawful-3.ensures c.supplied_lawful-4.ensures)
+    c.supplied_lawful-2.ensures c.supplied_lawful-3.ensures c.supplied_lawful-4.ensures
+    c.supplied_lawful-5.ensures c.supplied_lawful-6.ensures c.supplied_lawful-7.ensures
+    c.supplied_lawful-8.ensures c.supplied_lawful-9.ensures)

@@ -1,9 +1,9 @@
 -- Written by tables/generate from tables/can.
 -- A type without a row in the list has no row in the table. For any other type the table says which
 -- value is stored. A search would read the whole table once per row.
-use Rattle.std.proofs.Common.{rules, refl}
+use Rattle.std.proofs.Common.{ap, rules, refl}
 use Rattle.linkinfo_table.specs.FamilyRowLaws.{no_row_read, row_stored}
-use Rattle.linkinfo_typed.specs.declared.can.InfoCan.TheVariants.{Other}
+use Rattle.linkinfo_typed.specs.declared.can.InfoCan.TheVariants.{State, CtrlMode, Other}
 use Rattle.linkinfo_typed.specs.Can.{can_plain, can_rows, can_suits}
 use Rattle.linkinfo_typed.proofs.can.InfoCanRowFamily.store_decoded.Goals as goal
 
@@ -29,13 +29,13 @@ pub returns-in-4 : goal.returns-in-4
 returns-in-4 g c =
     row_stored (g.P.Slot.with c.args.slot.now) (λ d. Other d) _ _ _ (λ n. can_rows n) refl
     c.in-Typed-store_by_rows.is c.in-4.is c.requires c.store_by_rows-u32_or_zero-in-4.ensures.le32.0
-    refl c.store_by_rows-store-in-4.ensures
+    (ap (λ x. State x) c.store_by_rows-from.ensures) c.store_by_rows-store-in-4.ensures
 
 pub returns-in-5 : goal.returns-in-5
 returns-in-5 g c =
     row_stored (g.P.Slot.with c.args.slot.now) (λ d. Other d) _ _ _ (λ n. can_rows n) refl
     c.in-Typed-store_by_rows.is c.in-5.is c.requires c.store_by_rows-u32_pair_or_zeros.ensures.0
-    refl c.store_by_rows-store-in-5.ensures
+    (ap (λ x. CtrlMode x) c.store_by_rows-flags_of.ensures) c.store_by_rows-store-in-5.ensures
 
 pub returns-in-6 : goal.returns-in-6
 returns-in-6 g c =

@@ -1,0 +1,1301 @@
+// Written by tables/generate from tables/numbers/bond.
+//! Bonds and their ports.
+
+ghost use Rattle.std.specs.Prelude.{◌≡◌};
+
+use crate::by_values::{number_of_value, value_of_number, value_of_word, write_word};
+use crate::flags::KeepsEveryBit;
+use bitflags::{Flag, Flags};
+use nla_frame::{DecodeError, ExactEq, Family};
+use std::fmt;
+use std::str::FromStr;
+
+/// The mode of a bond: `IFLA_BOND_MODE`, one byte (include/uapi/linux/if_bonding.h).
+#[derive(Clone, Copy, Debug, PartialEq, Eq)]
+pub enum BondMode {
+    /// `BOND_MODE_ROUNDROBIN`: frames go out of the ports in turn.
+    BalanceRr,
+    /// `BOND_MODE_ACTIVEBACKUP`: one port is used, the others stand by.
+    ActiveBackup,
+    /// `BOND_MODE_XOR`: a hash of the frame chooses the port.
+    BalanceXor,
+    /// `BOND_MODE_BROADCAST`: each frame goes out of all ports.
+    Broadcast,
+    /// `BOND_MODE_8023AD`: LACP, IEEE 802.3ad.
+    Ieee8023Ad,
+    /// `BOND_MODE_TLB`: sent frames are balanced by load.
+    BalanceTlb,
+    /// `BOND_MODE_ALB`: received frames are balanced, too.
+    BalanceAlb,
+    /// Any number without a name.
+    Other(u8),
+}
+
+macro_rules! modes {
+    ($body:ident $given:tt) => {
+        $body! { BondMode $given;
+            (BalanceRr, 0, "balance-rr"),
+            (ActiveBackup, 1, "active-backup"),
+            (BalanceXor, 2, "balance-xor"),
+            (Broadcast, 3, "broadcast"),
+            (Ieee8023Ad, 4, "802.3ad"),
+            (BalanceTlb, 5, "balance-tlb"),
+            (BalanceAlb, 6, "balance-alb"),
+        }
+    };
+}
+
+impl From<u8> for BondMode {
+    ghost use Rattle.linkinfo_numbers.specs.Bond.{bond_mode};
+
+    ghost from_gives = { λ number mode. mode ≡ bond_mode number };
+
+    fn from(number: u8) -> BondMode {
+        modes!(value_of_number number)
+    }
+}
+
+impl From<BondMode> for u8 {
+    ghost use Rattle.linkinfo_numbers.specs.Bond.{bond_mode_number};
+
+    ghost from_gives = { λ mode number. number ≡ bond_mode_number mode };
+
+    fn from(mode: BondMode) -> u8 {
+        modes!(number_of_value mode)
+    }
+}
+
+impl fmt::Display for BondMode {
+    ghost use Rattle.std.specs.Prelude.{Some};
+    ghost use Rattle.linkinfo_numbers.specs.Bond.{bond_mode_text};
+
+    ghost output = { λ mode. Some (bond_mode_text mode) };
+
+    fn fmt<W: fmt::Write>(&self, f: &mut fmt::Formatter<W>) -> fmt::Result {
+        modes!(write_word(self, f))
+    }
+}
+
+/// Every text that `Display` does not write is rejected as `(Bond, 0, Word)`.
+impl FromStr for BondMode {
+    type Err = DecodeError;
+
+    ghost use Rattle.linkinfo_numbers.specs.Bond.{bond_mode_of_word};
+
+    ghost from_str_gives = { λ word result. result ≡ bond_mode_of_word word };
+
+    fn from_str(word: &str) -> Result<BondMode, DecodeError> {
+        modes!(value_of_word(word, Family::Bond))
+    }
+}
+
+impl Default for BondMode {
+    ghost use Rattle.linkinfo_numbers.specs.declared.bond.BondMode.TheVariants.{BalanceRr};
+
+    ghost is_default = { λ mode. mode ≡ BalanceRr };
+
+    fn default() -> BondMode {
+        BondMode::BalanceRr
+    }
+}
+
+impl ExactEq for BondMode {
+    ghost use Rattle.std.proofs.Common.{rules};
+
+    ghost exact = { Prim.search rules };
+}
+
+/// Which ports of a bond have their ARP packets validated: `IFLA_BOND_ARP_VALIDATE`, a
+/// little-endian 32-bit number (include/net/bonding.h).
+#[derive(Clone, Copy, Debug, PartialEq, Eq)]
+pub enum BondArpValidate {
+    /// `BOND_ARP_VALIDATE_NONE`: none.
+    None,
+    /// `BOND_ARP_VALIDATE_ACTIVE`: the active port.
+    Active,
+    /// `BOND_ARP_VALIDATE_BACKUP`: the ports that stand by.
+    Backup,
+    /// `BOND_ARP_VALIDATE_ALL`: all ports.
+    All,
+    /// `BOND_ARP_FILTER`: none; only ARP packets count.
+    Filter,
+    /// `BOND_ARP_FILTER_ACTIVE`: the active port; only ARP packets count.
+    FilterActive,
+    /// `BOND_ARP_FILTER_BACKUP`: the ports that stand by; only ARP packets count.
+    FilterBackup,
+    /// Any number without a name.
+    Other(u32),
+}
+
+macro_rules! validates {
+    ($body:ident $given:tt) => {
+        $body! { BondArpValidate $given;
+            (None, 0, "none"),
+            (Active, 1, "active"),
+            (Backup, 2, "backup"),
+            (All, 3, "all"),
+            (Filter, 4, "filter"),
+            (FilterActive, 5, "filter_active"),
+            (FilterBackup, 6, "filter_backup"),
+        }
+    };
+}
+
+impl From<u32> for BondArpValidate {
+    ghost use Rattle.linkinfo_numbers.specs.Bond.{bond_arp_validate};
+
+    ghost from_gives = { λ number validate. validate ≡ bond_arp_validate number };
+
+    fn from(number: u32) -> BondArpValidate {
+        validates!(value_of_number number)
+    }
+}
+
+impl From<BondArpValidate> for u32 {
+    ghost use Rattle.linkinfo_numbers.specs.Bond.{bond_arp_validate_number};
+
+    ghost from_gives = { λ validate number. number ≡ bond_arp_validate_number validate };
+
+    fn from(validate: BondArpValidate) -> u32 {
+        validates!(number_of_value validate)
+    }
+}
+
+impl fmt::Display for BondArpValidate {
+    ghost use Rattle.std.specs.Prelude.{Some};
+    ghost use Rattle.linkinfo_numbers.specs.Bond.{bond_arp_validate_text};
+
+    ghost output = { λ validate. Some (bond_arp_validate_text validate) };
+
+    fn fmt<W: fmt::Write>(&self, f: &mut fmt::Formatter<W>) -> fmt::Result {
+        validates!(write_word(self, f))
+    }
+}
+
+/// Every text that `Display` does not write is rejected as `(Bond, 0, Word)`.
+impl FromStr for BondArpValidate {
+    type Err = DecodeError;
+
+    ghost use Rattle.linkinfo_numbers.specs.Bond.{bond_arp_validate_of_word};
+
+    ghost from_str_gives = { λ word result. result ≡ bond_arp_validate_of_word word };
+
+    fn from_str(word: &str) -> Result<BondArpValidate, DecodeError> {
+        validates!(value_of_word(word, Family::Bond))
+    }
+}
+
+impl Default for BondArpValidate {
+    ghost use Rattle.linkinfo_numbers.specs.declared.bond.BondArpValidate.TheVariants.{None};
+
+    ghost is_default = { λ validate. validate ≡ None };
+
+    fn default() -> BondArpValidate {
+        BondArpValidate::None
+    }
+}
+
+impl ExactEq for BondArpValidate {
+    ghost use Rattle.std.proofs.Common.{rules};
+
+    ghost exact = { Prim.search rules };
+}
+
+/// How many targets of ARP must answer: `IFLA_BOND_ARP_ALL_TARGETS`, a little-endian 32-bit number
+/// (include/net/bonding.h).
+#[derive(Clone, Copy, Debug, PartialEq, Eq)]
+pub enum BondArpAllTargets {
+    /// `BOND_ARP_TARGETS_ANY`: one.
+    Any,
+    /// `BOND_ARP_TARGETS_ALL`: all.
+    All,
+    /// Any number without a name.
+    Other(u32),
+}
+
+macro_rules! targets {
+    ($body:ident $given:tt) => {
+        $body! { BondArpAllTargets $given;
+            (Any, 0, "any"),
+            (All, 1, "all"),
+        }
+    };
+}
+
+impl From<u32> for BondArpAllTargets {
+    ghost use Rattle.linkinfo_numbers.specs.Bond.{bond_arp_all_targets};
+
+    ghost from_gives = { λ number targets. targets ≡ bond_arp_all_targets number };
+
+    fn from(number: u32) -> BondArpAllTargets {
+        targets!(value_of_number number)
+    }
+}
+
+impl From<BondArpAllTargets> for u32 {
+    ghost use Rattle.linkinfo_numbers.specs.Bond.{bond_arp_all_targets_number};
+
+    ghost from_gives = { λ targets number. number ≡ bond_arp_all_targets_number targets };
+
+    fn from(targets: BondArpAllTargets) -> u32 {
+        targets!(number_of_value targets)
+    }
+}
+
+impl fmt::Display for BondArpAllTargets {
+    ghost use Rattle.std.specs.Prelude.{Some};
+    ghost use Rattle.linkinfo_numbers.specs.Bond.{bond_arp_all_targets_text};
+
+    ghost output = { λ targets. Some (bond_arp_all_targets_text targets) };
+
+    fn fmt<W: fmt::Write>(&self, f: &mut fmt::Formatter<W>) -> fmt::Result {
+        targets!(write_word(self, f))
+    }
+}
+
+/// Every text that `Display` does not write is rejected as `(Bond, 0, Word)`.
+impl FromStr for BondArpAllTargets {
+    type Err = DecodeError;
+
+    ghost use Rattle.linkinfo_numbers.specs.Bond.{bond_arp_all_targets_of_word};
+
+    ghost from_str_gives = { λ word result. result ≡ bond_arp_all_targets_of_word word };
+
+    fn from_str(word: &str) -> Result<BondArpAllTargets, DecodeError> {
+        targets!(value_of_word(word, Family::Bond))
+    }
+}
+
+impl Default for BondArpAllTargets {
+    ghost use Rattle.linkinfo_numbers.specs.declared.bond.BondArpAllTargets.TheVariants.{Any};
+
+    ghost is_default = { λ targets. targets ≡ Any };
+
+    fn default() -> BondArpAllTargets {
+        BondArpAllTargets::Any
+    }
+}
+
+impl ExactEq for BondArpAllTargets {
+    ghost use Rattle.std.proofs.Common.{rules};
+
+    ghost exact = { Prim.search rules };
+}
+
+/// When the primary port of a bond becomes active again: `IFLA_BOND_PRIMARY_RESELECT`, one byte
+/// (include/net/bonding.h).
+#[derive(Clone, Copy, Debug, PartialEq, Eq)]
+pub enum BondPrimaryReselect {
+    /// `BOND_PRI_RESELECT_ALWAYS`: as soon as it is up.
+    Always,
+    /// `BOND_PRI_RESELECT_BETTER`: if it is faster than the active port.
+    Better,
+    /// `BOND_PRI_RESELECT_FAILURE`: if the active port fails.
+    Failure,
+    /// Any number without a name.
+    Other(u8),
+}
+
+macro_rules! reselects {
+    ($body:ident $given:tt) => {
+        $body! { BondPrimaryReselect $given;
+            (Always, 0, "always"),
+            (Better, 1, "better"),
+            (Failure, 2, "failure"),
+        }
+    };
+}
+
+impl From<u8> for BondPrimaryReselect {
+    ghost use Rattle.linkinfo_numbers.specs.Bond.{bond_primary_reselect};
+
+    ghost from_gives = { λ number reselect. reselect ≡ bond_primary_reselect number };
+
+    fn from(number: u8) -> BondPrimaryReselect {
+        reselects!(value_of_number number)
+    }
+}
+
+impl From<BondPrimaryReselect> for u8 {
+    ghost use Rattle.linkinfo_numbers.specs.Bond.{bond_primary_reselect_number};
+
+    ghost from_gives = { λ reselect number. number ≡ bond_primary_reselect_number reselect };
+
+    fn from(reselect: BondPrimaryReselect) -> u8 {
+        reselects!(number_of_value reselect)
+    }
+}
+
+impl fmt::Display for BondPrimaryReselect {
+    ghost use Rattle.std.specs.Prelude.{Some};
+    ghost use Rattle.linkinfo_numbers.specs.Bond.{bond_primary_reselect_text};
+
+    ghost output = { λ reselect. Some (bond_primary_reselect_text reselect) };
+
+    fn fmt<W: fmt::Write>(&self, f: &mut fmt::Formatter<W>) -> fmt::Result {
+        reselects!(write_word(self, f))
+    }
+}
+
+/// Every text that `Display` does not write is rejected as `(Bond, 0, Word)`.
+impl FromStr for BondPrimaryReselect {
+    type Err = DecodeError;
+
+    ghost use Rattle.linkinfo_numbers.specs.Bond.{bond_primary_reselect_of_word};
+
+    ghost from_str_gives = { λ word result. result ≡ bond_primary_reselect_of_word word };
+
+    fn from_str(word: &str) -> Result<BondPrimaryReselect, DecodeError> {
+        reselects!(value_of_word(word, Family::Bond))
+    }
+}
+
+impl Default for BondPrimaryReselect {
+    ghost use Rattle.linkinfo_numbers.specs.declared.bond.BondPrimaryReselect.TheVariants.{Always};
+
+    ghost is_default = { λ reselect. reselect ≡ Always };
+
+    fn default() -> BondPrimaryReselect {
+        BondPrimaryReselect::Always
+    }
+}
+
+impl ExactEq for BondPrimaryReselect {
+    ghost use Rattle.std.proofs.Common.{rules};
+
+    ghost exact = { Prim.search rules };
+}
+
+/// Which hardware addresses a bond and its ports have: `IFLA_BOND_FAIL_OVER_MAC`, one byte
+/// (include/net/bonding.h).
+#[derive(Clone, Copy, Debug, PartialEq, Eq)]
+pub enum BondFailOverMac {
+    /// `BOND_FOM_NONE`: all have that of the bond.
+    None,
+    /// `BOND_FOM_ACTIVE`: the bond has that of the active port.
+    Active,
+    /// `BOND_FOM_FOLLOW`: a port gets that of the bond as it becomes active.
+    Follow,
+    /// Any number without a name.
+    Other(u8),
+}
+
+macro_rules! fail_overs {
+    ($body:ident $given:tt) => {
+        $body! { BondFailOverMac $given;
+            (None, 0, "none"),
+            (Active, 1, "active"),
+            (Follow, 2, "follow"),
+        }
+    };
+}
+
+impl From<u8> for BondFailOverMac {
+    ghost use Rattle.linkinfo_numbers.specs.Bond.{bond_fail_over_mac};
+
+    ghost from_gives = { λ number fail_over. fail_over ≡ bond_fail_over_mac number };
+
+    fn from(number: u8) -> BondFailOverMac {
+        fail_overs!(value_of_number number)
+    }
+}
+
+impl From<BondFailOverMac> for u8 {
+    ghost use Rattle.linkinfo_numbers.specs.Bond.{bond_fail_over_mac_number};
+
+    ghost from_gives = { λ fail_over number. number ≡ bond_fail_over_mac_number fail_over };
+
+    fn from(fail_over: BondFailOverMac) -> u8 {
+        fail_overs!(number_of_value fail_over)
+    }
+}
+
+impl fmt::Display for BondFailOverMac {
+    ghost use Rattle.std.specs.Prelude.{Some};
+    ghost use Rattle.linkinfo_numbers.specs.Bond.{bond_fail_over_mac_text};
+
+    ghost output = { λ fail_over. Some (bond_fail_over_mac_text fail_over) };
+
+    fn fmt<W: fmt::Write>(&self, f: &mut fmt::Formatter<W>) -> fmt::Result {
+        fail_overs!(write_word(self, f))
+    }
+}
+
+/// Every text that `Display` does not write is rejected as `(Bond, 0, Word)`.
+impl FromStr for BondFailOverMac {
+    type Err = DecodeError;
+
+    ghost use Rattle.linkinfo_numbers.specs.Bond.{bond_fail_over_mac_of_word};
+
+    ghost from_str_gives = { λ word result. result ≡ bond_fail_over_mac_of_word word };
+
+    fn from_str(word: &str) -> Result<BondFailOverMac, DecodeError> {
+        fail_overs!(value_of_word(word, Family::Bond))
+    }
+}
+
+impl Default for BondFailOverMac {
+    ghost use Rattle.linkinfo_numbers.specs.declared.bond.BondFailOverMac.TheVariants.{None};
+
+    ghost is_default = { λ fail_over. fail_over ≡ None };
+
+    fn default() -> BondFailOverMac {
+        BondFailOverMac::None
+    }
+}
+
+impl ExactEq for BondFailOverMac {
+    ghost use Rattle.std.proofs.Common.{rules};
+
+    ghost exact = { Prim.search rules };
+}
+
+/// What the port of a frame is chosen by: `IFLA_BOND_XMIT_HASH_POLICY`, one byte
+/// (include/uapi/linux/if_bonding.h).
+#[derive(Clone, Copy, Debug, PartialEq, Eq)]
+pub enum BondXmitHashPolicy {
+    /// `BOND_XMIT_POLICY_LAYER2`: hardware addresses.
+    Layer2,
+    /// `BOND_XMIT_POLICY_LAYER34`: IP addresses and ports.
+    Layer34,
+    /// `BOND_XMIT_POLICY_LAYER23`: hardware and IP addresses.
+    Layer23,
+    /// `BOND_XMIT_POLICY_ENCAP23`: as `layer2+3`, inside tunnels.
+    Encap23,
+    /// `BOND_XMIT_POLICY_ENCAP34`: as `layer3+4`, inside tunnels.
+    Encap34,
+    /// `BOND_XMIT_POLICY_VLAN_SRCMAC`: VLAN and source address.
+    VlanSrcMac,
+    /// Any number without a name.
+    Other(u8),
+}
+
+macro_rules! policies {
+    ($body:ident $given:tt) => {
+        $body! { BondXmitHashPolicy $given;
+            (Layer2, 0, "layer2"),
+            (Layer34, 1, "layer3+4"),
+            (Layer23, 2, "layer2+3"),
+            (Encap23, 3, "encap2+3"),
+            (Encap34, 4, "encap3+4"),
+            (VlanSrcMac, 5, "vlan+srcmac"),
+        }
+    };
+}
+
+impl From<u8> for BondXmitHashPolicy {
+    ghost use Rattle.linkinfo_numbers.specs.Bond.{bond_xmit_hash_policy};
+
+    ghost from_gives = { λ number policy. policy ≡ bond_xmit_hash_policy number };
+
+    fn from(number: u8) -> BondXmitHashPolicy {
+        policies!(value_of_number number)
+    }
+}
+
+impl From<BondXmitHashPolicy> for u8 {
+    ghost use Rattle.linkinfo_numbers.specs.Bond.{bond_xmit_hash_policy_number};
+
+    ghost from_gives = { λ policy number. number ≡ bond_xmit_hash_policy_number policy };
+
+    fn from(policy: BondXmitHashPolicy) -> u8 {
+        policies!(number_of_value policy)
+    }
+}
+
+impl fmt::Display for BondXmitHashPolicy {
+    ghost use Rattle.std.specs.Prelude.{Some};
+    ghost use Rattle.linkinfo_numbers.specs.Bond.{bond_xmit_hash_policy_text};
+
+    ghost output = { λ policy. Some (bond_xmit_hash_policy_text policy) };
+
+    fn fmt<W: fmt::Write>(&self, f: &mut fmt::Formatter<W>) -> fmt::Result {
+        policies!(write_word(self, f))
+    }
+}
+
+/// Every text that `Display` does not write is rejected as `(Bond, 0, Word)`.
+impl FromStr for BondXmitHashPolicy {
+    type Err = DecodeError;
+
+    ghost use Rattle.linkinfo_numbers.specs.Bond.{bond_xmit_hash_policy_of_word};
+
+    ghost from_str_gives = { λ word result. result ≡ bond_xmit_hash_policy_of_word word };
+
+    fn from_str(word: &str) -> Result<BondXmitHashPolicy, DecodeError> {
+        policies!(value_of_word(word, Family::Bond))
+    }
+}
+
+impl Default for BondXmitHashPolicy {
+    ghost use Rattle.linkinfo_numbers.specs.declared.bond.BondXmitHashPolicy.TheVariants.{Layer2};
+
+    ghost is_default = { λ policy. policy ≡ Layer2 };
+
+    fn default() -> BondXmitHashPolicy {
+        BondXmitHashPolicy::Layer2
+    }
+}
+
+impl ExactEq for BondXmitHashPolicy {
+    ghost use Rattle.std.proofs.Common.{rules};
+
+    ghost exact = { Prim.search rules };
+}
+
+/// What becomes of frames that inactive ports receive: `IFLA_BOND_ALL_SLAVES_ACTIVE`, one byte
+/// (include/uapi/linux/if_link.h).
+#[derive(Clone, Copy, Debug, PartialEq, Eq)]
+pub enum BondAllPortActive {
+    /// They are dropped (0).
+    Dropped,
+    /// They are delivered (1).
+    Delivered,
+    /// Any number without a name.
+    Other(u8),
+}
+
+macro_rules! all_actives {
+    ($body:ident $given:tt) => {
+        $body! { BondAllPortActive $given;
+            (Dropped, 0),
+            (Delivered, 1),
+        }
+    };
+}
+
+impl From<u8> for BondAllPortActive {
+    ghost use Rattle.linkinfo_numbers.specs.Bond.{bond_all_port_active};
+
+    ghost from_gives = { λ number all_active. all_active ≡ bond_all_port_active number };
+
+    fn from(number: u8) -> BondAllPortActive {
+        all_actives!(value_of_number number)
+    }
+}
+
+impl From<BondAllPortActive> for u8 {
+    ghost use Rattle.linkinfo_numbers.specs.Bond.{bond_all_port_active_number};
+
+    ghost from_gives = { λ all_active number. number ≡ bond_all_port_active_number all_active };
+
+    fn from(all_active: BondAllPortActive) -> u8 {
+        all_actives!(number_of_value all_active)
+    }
+}
+
+impl ExactEq for BondAllPortActive {
+    ghost use Rattle.std.proofs.Common.{rules};
+
+    ghost exact = { Prim.search rules };
+}
+
+/// How often the partner is to send LACP packets: `IFLA_BOND_AD_LACP_RATE`, one byte
+/// (include/net/bond_3ad.h).
+#[derive(Clone, Copy, Debug, PartialEq, Eq)]
+pub enum BondLacpRate {
+    /// `AD_LACP_SLOW`: every 30 seconds.
+    Slow,
+    /// `AD_LACP_FAST`: every second.
+    Fast,
+    /// Any number without a name.
+    Other(u8),
+}
+
+macro_rules! rates {
+    ($body:ident $given:tt) => {
+        $body! { BondLacpRate $given;
+            (Slow, 0, "slow"),
+            (Fast, 1, "fast"),
+        }
+    };
+}
+
+impl From<u8> for BondLacpRate {
+    ghost use Rattle.linkinfo_numbers.specs.Bond.{bond_lacp_rate};
+
+    ghost from_gives = { λ number rate. rate ≡ bond_lacp_rate number };
+
+    fn from(number: u8) -> BondLacpRate {
+        rates!(value_of_number number)
+    }
+}
+
+impl From<BondLacpRate> for u8 {
+    ghost use Rattle.linkinfo_numbers.specs.Bond.{bond_lacp_rate_number};
+
+    ghost from_gives = { λ rate number. number ≡ bond_lacp_rate_number rate };
+
+    fn from(rate: BondLacpRate) -> u8 {
+        rates!(number_of_value rate)
+    }
+}
+
+impl fmt::Display for BondLacpRate {
+    ghost use Rattle.std.specs.Prelude.{Some};
+    ghost use Rattle.linkinfo_numbers.specs.Bond.{bond_lacp_rate_text};
+
+    ghost output = { λ rate. Some (bond_lacp_rate_text rate) };
+
+    fn fmt<W: fmt::Write>(&self, f: &mut fmt::Formatter<W>) -> fmt::Result {
+        rates!(write_word(self, f))
+    }
+}
+
+/// Every text that `Display` does not write is rejected as `(Bond, 0, Word)`.
+impl FromStr for BondLacpRate {
+    type Err = DecodeError;
+
+    ghost use Rattle.linkinfo_numbers.specs.Bond.{bond_lacp_rate_of_word};
+
+    ghost from_str_gives = { λ word result. result ≡ bond_lacp_rate_of_word word };
+
+    fn from_str(word: &str) -> Result<BondLacpRate, DecodeError> {
+        rates!(value_of_word(word, Family::Bond))
+    }
+}
+
+impl Default for BondLacpRate {
+    ghost use Rattle.linkinfo_numbers.specs.declared.bond.BondLacpRate.TheVariants.{Slow};
+
+    ghost is_default = { λ rate. rate ≡ Slow };
+
+    fn default() -> BondLacpRate {
+        BondLacpRate::Slow
+    }
+}
+
+impl ExactEq for BondLacpRate {
+    ghost use Rattle.std.proofs.Common.{rules};
+
+    ghost exact = { Prim.search rules };
+}
+
+/// What the active aggregator is chosen by: `IFLA_BOND_AD_SELECT`, one byte
+/// (include/net/bond_3ad.h).
+#[derive(Clone, Copy, Debug, PartialEq, Eq)]
+pub enum BondAdSelect {
+    /// `BOND_AD_STABLE`: bandwidth, when the active one fails.
+    Stable,
+    /// `BOND_AD_BANDWIDTH`: bandwidth.
+    Bandwidth,
+    /// `BOND_AD_COUNT`: number of ports.
+    Count,
+    /// `BOND_AD_PRIO`: priorities of ports.
+    ActorPortPrio,
+    /// Any number without a name.
+    Other(u8),
+}
+
+macro_rules! selects {
+    ($body:ident $given:tt) => {
+        $body! { BondAdSelect $given;
+            (Stable, 0, "stable"),
+            (Bandwidth, 1, "bandwidth"),
+            (Count, 2, "count"),
+            (ActorPortPrio, 3, "actor_port_prio"),
+        }
+    };
+}
+
+impl From<u8> for BondAdSelect {
+    ghost use Rattle.linkinfo_numbers.specs.Bond.{bond_ad_select};
+
+    ghost from_gives = { λ number select. select ≡ bond_ad_select number };
+
+    fn from(number: u8) -> BondAdSelect {
+        selects!(value_of_number number)
+    }
+}
+
+impl From<BondAdSelect> for u8 {
+    ghost use Rattle.linkinfo_numbers.specs.Bond.{bond_ad_select_number};
+
+    ghost from_gives = { λ select number. number ≡ bond_ad_select_number select };
+
+    fn from(select: BondAdSelect) -> u8 {
+        selects!(number_of_value select)
+    }
+}
+
+impl fmt::Display for BondAdSelect {
+    ghost use Rattle.std.specs.Prelude.{Some};
+    ghost use Rattle.linkinfo_numbers.specs.Bond.{bond_ad_select_text};
+
+    ghost output = { λ select. Some (bond_ad_select_text select) };
+
+    fn fmt<W: fmt::Write>(&self, f: &mut fmt::Formatter<W>) -> fmt::Result {
+        selects!(write_word(self, f))
+    }
+}
+
+/// Every text that `Display` does not write is rejected as `(Bond, 0, Word)`.
+impl FromStr for BondAdSelect {
+    type Err = DecodeError;
+
+    ghost use Rattle.linkinfo_numbers.specs.Bond.{bond_ad_select_of_word};
+
+    ghost from_str_gives = { λ word result. result ≡ bond_ad_select_of_word word };
+
+    fn from_str(word: &str) -> Result<BondAdSelect, DecodeError> {
+        selects!(value_of_word(word, Family::Bond))
+    }
+}
+
+impl Default for BondAdSelect {
+    ghost use Rattle.linkinfo_numbers.specs.declared.bond.BondAdSelect.TheVariants.{Stable};
+
+    ghost is_default = { λ select. select ≡ Stable };
+
+    fn default() -> BondAdSelect {
+        BondAdSelect::Stable
+    }
+}
+
+impl ExactEq for BondAdSelect {
+    ghost use Rattle.std.proofs.Common.{rules};
+
+    ghost exact = { Prim.search rules };
+}
+
+/// Whether a port of a bond is used: `IFLA_BOND_SLAVE_STATE`, one byte
+/// (include/uapi/linux/if_bonding.h).
+#[derive(Clone, Copy, Debug, PartialEq, Eq)]
+pub enum BondPortState {
+    /// `BOND_STATE_ACTIVE`: it sends and receives.
+    Active,
+    /// `BOND_STATE_BACKUP`: it stands by.
+    Backup,
+    /// Any number without a name.
+    Other(u8),
+}
+
+macro_rules! states {
+    ($body:ident $given:tt) => {
+        $body! { BondPortState $given;
+            (Active, 0, "ACTIVE"),
+            (Backup, 1, "BACKUP"),
+        }
+    };
+}
+
+impl From<u8> for BondPortState {
+    ghost use Rattle.linkinfo_numbers.specs.Bond.{bond_port_state};
+
+    ghost from_gives = { λ number state. state ≡ bond_port_state number };
+
+    fn from(number: u8) -> BondPortState {
+        states!(value_of_number number)
+    }
+}
+
+impl From<BondPortState> for u8 {
+    ghost use Rattle.linkinfo_numbers.specs.Bond.{bond_port_state_number};
+
+    ghost from_gives = { λ state number. number ≡ bond_port_state_number state };
+
+    fn from(state: BondPortState) -> u8 {
+        states!(number_of_value state)
+    }
+}
+
+impl fmt::Display for BondPortState {
+    ghost use Rattle.std.specs.Prelude.{Some};
+    ghost use Rattle.linkinfo_numbers.specs.Bond.{bond_port_state_text};
+
+    ghost output = { λ state. Some (bond_port_state_text state) };
+
+    fn fmt<W: fmt::Write>(&self, f: &mut fmt::Formatter<W>) -> fmt::Result {
+        states!(write_word(self, f))
+    }
+}
+
+/// Every text that `Display` does not write is rejected as `(BondPort, 0, Word)`.
+impl FromStr for BondPortState {
+    type Err = DecodeError;
+
+    ghost use Rattle.linkinfo_numbers.specs.Bond.{bond_port_state_of_word};
+
+    ghost from_str_gives = { λ word result. result ≡ bond_port_state_of_word word };
+
+    fn from_str(word: &str) -> Result<BondPortState, DecodeError> {
+        states!(value_of_word(word, Family::BondPort))
+    }
+}
+
+impl ExactEq for BondPortState {
+    ghost use Rattle.std.proofs.Common.{rules};
+
+    ghost exact = { Prim.search rules };
+}
+
+/// What the monitor of a bond says of a port's link: `IFLA_BOND_SLAVE_MII_STATUS`, one byte
+/// (include/uapi/linux/if_bonding.h).
+#[derive(Clone, Copy, Debug, PartialEq, Eq)]
+pub enum MiiStatus {
+    /// `BOND_LINK_UP`: it is up.
+    Up,
+    /// `BOND_LINK_FAIL`: it went down just now.
+    GoingDown,
+    /// `BOND_LINK_DOWN`: it is down.
+    Down,
+    /// `BOND_LINK_BACK`: it is coming up.
+    GoingBack,
+    /// Any number without a name.
+    Other(u8),
+}
+
+macro_rules! statuses {
+    ($body:ident $given:tt) => {
+        $body! { MiiStatus $given;
+            (Up, 0, "UP"),
+            (GoingDown, 1, "GOING_DOWN"),
+            (Down, 2, "DOWN"),
+            (GoingBack, 3, "GOING_BACK"),
+        }
+    };
+}
+
+impl From<u8> for MiiStatus {
+    ghost use Rattle.linkinfo_numbers.specs.Bond.{mii_status};
+
+    ghost from_gives = { λ number status. status ≡ mii_status number };
+
+    fn from(number: u8) -> MiiStatus {
+        statuses!(value_of_number number)
+    }
+}
+
+impl From<MiiStatus> for u8 {
+    ghost use Rattle.linkinfo_numbers.specs.Bond.{mii_status_number};
+
+    ghost from_gives = { λ status number. number ≡ mii_status_number status };
+
+    fn from(status: MiiStatus) -> u8 {
+        statuses!(number_of_value status)
+    }
+}
+
+impl fmt::Display for MiiStatus {
+    ghost use Rattle.std.specs.Prelude.{Some};
+    ghost use Rattle.linkinfo_numbers.specs.Bond.{mii_status_text};
+
+    ghost output = { λ status. Some (mii_status_text status) };
+
+    fn fmt<W: fmt::Write>(&self, f: &mut fmt::Formatter<W>) -> fmt::Result {
+        statuses!(write_word(self, f))
+    }
+}
+
+/// Every text that `Display` does not write is rejected as `(BondPort, 0, Word)`.
+impl FromStr for MiiStatus {
+    type Err = DecodeError;
+
+    ghost use Rattle.linkinfo_numbers.specs.Bond.{mii_status_of_word};
+
+    ghost from_str_gives = { λ word result. result ≡ mii_status_of_word word };
+
+    fn from_str(word: &str) -> Result<MiiStatus, DecodeError> {
+        statuses!(value_of_word(word, Family::BondPort))
+    }
+}
+
+impl ExactEq for MiiStatus {
+    ghost use Rattle.std.proofs.Common.{rules};
+
+    ghost exact = { Prim.search rules };
+}
+
+/// What the churn machine of LACP says of a port: `IFLA_BOND_SLAVE_AD_CHURN_ACTOR_STATE` and
+/// `IFLA_BOND_SLAVE_AD_CHURN_PARTNER_STATE`, one byte (include/net/bond_3ad.h).
+#[derive(Clone, Copy, Debug, PartialEq, Eq)]
+pub enum ChurnState {
+    /// `AD_CHURN_MONITOR`: whether the port gets in sync is watched.
+    Monitor,
+    /// `AD_CHURN`: the port does not get in sync.
+    Churn,
+    /// `AD_NO_CHURN`: the port is in sync.
+    NoChurn,
+    /// Any number without a name.
+    Other(u8),
+}
+
+macro_rules! churns {
+    ($body:ident $given:tt) => {
+        $body! { ChurnState $given;
+            (Monitor, 0, "MONITOR"),
+            (Churn, 1, "CHURN"),
+            (NoChurn, 2, "NO_CHURN"),
+        }
+    };
+}
+
+impl From<u8> for ChurnState {
+    ghost use Rattle.linkinfo_numbers.specs.Bond.{churn_state};
+
+    ghost from_gives = { λ number churn. churn ≡ churn_state number };
+
+    fn from(number: u8) -> ChurnState {
+        churns!(value_of_number number)
+    }
+}
+
+impl From<ChurnState> for u8 {
+    ghost use Rattle.linkinfo_numbers.specs.Bond.{churn_state_number};
+
+    ghost from_gives = { λ churn number. number ≡ churn_state_number churn };
+
+    fn from(churn: ChurnState) -> u8 {
+        churns!(number_of_value churn)
+    }
+}
+
+impl fmt::Display for ChurnState {
+    ghost use Rattle.std.specs.Prelude.{Some};
+    ghost use Rattle.linkinfo_numbers.specs.Bond.{churn_state_text};
+
+    ghost output = { λ churn. Some (churn_state_text churn) };
+
+    fn fmt<W: fmt::Write>(&self, f: &mut fmt::Formatter<W>) -> fmt::Result {
+        churns!(write_word(self, f))
+    }
+}
+
+/// Every text that `Display` does not write is rejected as `(BondPort, 0, Word)`.
+impl FromStr for ChurnState {
+    type Err = DecodeError;
+
+    ghost use Rattle.linkinfo_numbers.specs.Bond.{churn_state_of_word};
+
+    ghost from_str_gives = { λ word result. result ≡ churn_state_of_word word };
+
+    fn from_str(word: &str) -> Result<ChurnState, DecodeError> {
+        churns!(value_of_word(word, Family::BondPort))
+    }
+}
+
+impl ExactEq for ChurnState {
+    ghost use Rattle.std.proofs.Common.{rules};
+
+    ghost exact = { Prim.search rules };
+}
+
+/// The state of a port by LACP: `IFLA_BOND_SLAVE_AD_ACTOR_OPER_PORT_STATE`, one byte
+/// (include/uapi/linux/if_bonding.h). Every 8-bit number is a valid set.
+#[derive(Clone, Copy, Debug, PartialEq, Eq)]
+pub struct LacpState(u8);
+
+impl LacpState {
+    /// `LACP_STATE_LACP_ACTIVITY`: LACP is active.
+    pub const Activity: LacpState = LacpState(0x01);
+
+    /// `LACP_STATE_LACP_TIMEOUT`: timeouts are short.
+    pub const Timeout: LacpState = LacpState(0x02);
+
+    /// `LACP_STATE_AGGREGATION`: the port can be aggregated.
+    pub const Aggregation: LacpState = LacpState(0x04);
+
+    /// `LACP_STATE_SYNCHRONIZATION`: the port is in sync.
+    pub const Synchronization: LacpState = LacpState(0x08);
+
+    /// `LACP_STATE_COLLECTING`: frames are received.
+    pub const Collecting: LacpState = LacpState(0x10);
+
+    /// `LACP_STATE_DISTRIBUTING`: frames are sent.
+    pub const Distributing: LacpState = LacpState(0x20);
+
+    /// `LACP_STATE_DEFAULTED`: the partner is the default one.
+    pub const Defaulted: LacpState = LacpState(0x40);
+
+    /// `LACP_STATE_EXPIRED`: the partner was not heard of in time.
+    pub const Expired: LacpState = LacpState(0x80);
+
+    const TABLE: &'static [Flag<LacpState>] = &[
+        Flag {
+            name: "Activity",
+            value: LacpState::Activity,
+        },
+        Flag {
+            name: "Timeout",
+            value: LacpState::Timeout,
+        },
+        Flag {
+            name: "Aggregation",
+            value: LacpState::Aggregation,
+        },
+        Flag {
+            name: "Synchronization",
+            value: LacpState::Synchronization,
+        },
+        Flag {
+            name: "Collecting",
+            value: LacpState::Collecting,
+        },
+        Flag {
+            name: "Distributing",
+            value: LacpState::Distributing,
+        },
+        Flag {
+            name: "Defaulted",
+            value: LacpState::Defaulted,
+        },
+        Flag {
+            name: "Expired",
+            value: LacpState::Expired,
+        },
+        Flag {
+            name: "",
+            value: LacpState(u8::MAX),
+        },
+    ];
+}
+
+impl Flags for LacpState {
+    type Bits = u8;
+
+    ghost use Rattle.std.specs.Prelude.{⊤};
+    ghost use Rattle.linkinfo_numbers.specs.Bond.{lacp_state_table};
+
+    ghost exact = { ⊤ };
+
+    ghost table = { lacp_state_table };
+
+    ghost set_of = { λ set. set.0 };
+
+    fn flags<'a>() -> &'a [Flag<LacpState>] {
+        LacpState::TABLE
+    }
+
+    fn bits(&self) -> u8 {
+        self.0
+    }
+
+    fn from_bits_retain(bits: u8) -> LacpState {
+        LacpState(bits)
+    }
+}
+
+impl KeepsEveryBit for LacpState {
+    ghost use Rattle.linkinfo_numbers.specs.Flags.{every_bit_8};
+    ghost use Rattle.linkinfo_numbers.specs.Bond.{lacp_state_table, lacp_state_known};
+
+    ghost has_contracts = { tt };
+
+    ghost every_bit = { every_bit_8 lacp_state_table lacp_state_known };
+}
+
+/// The default is the empty set.
+impl Default for LacpState {
+    ghost is_default = { λ set. set.0 ≡ 0 };
+
+    fn default() -> LacpState {
+        LacpState(0)
+    }
+}
+
+impl ExactEq for LacpState {
+    ghost use Rattle.std.proofs.Common.{rules};
+
+    ghost exact = { Prim.search rules };
+}
+
+/// The state of a partner's port by LACP, of which eight bits are used:
+/// `IFLA_BOND_SLAVE_AD_PARTNER_OPER_PORT_STATE`, a little-endian 16-bit number
+/// (include/uapi/linux/if_bonding.h). Every 16-bit number is a valid set.
+#[derive(Clone, Copy, Debug, PartialEq, Eq)]
+pub struct LacpState16(u16);
+
+impl LacpState16 {
+    /// `LACP_STATE_LACP_ACTIVITY`: LACP is active.
+    pub const Activity: LacpState16 = LacpState16(0x01);
+
+    /// `LACP_STATE_LACP_TIMEOUT`: timeouts are short.
+    pub const Timeout: LacpState16 = LacpState16(0x02);
+
+    /// `LACP_STATE_AGGREGATION`: the port can be aggregated.
+    pub const Aggregation: LacpState16 = LacpState16(0x04);
+
+    /// `LACP_STATE_SYNCHRONIZATION`: the port is in sync.
+    pub const Synchronization: LacpState16 = LacpState16(0x08);
+
+    /// `LACP_STATE_COLLECTING`: frames are received.
+    pub const Collecting: LacpState16 = LacpState16(0x10);
+
+    /// `LACP_STATE_DISTRIBUTING`: frames are sent.
+    pub const Distributing: LacpState16 = LacpState16(0x20);
+
+    /// `LACP_STATE_DEFAULTED`: the partner is the default one.
+    pub const Defaulted: LacpState16 = LacpState16(0x40);
+
+    /// `LACP_STATE_EXPIRED`: the partner was not heard of in time.
+    pub const Expired: LacpState16 = LacpState16(0x80);
+
+    const TABLE: &'static [Flag<LacpState16>] = &[
+        Flag {
+            name: "Activity",
+            value: LacpState16::Activity,
+        },
+        Flag {
+            name: "Timeout",
+            value: LacpState16::Timeout,
+        },
+        Flag {
+            name: "Aggregation",
+            value: LacpState16::Aggregation,
+        },
+        Flag {
+            name: "Synchronization",
+            value: LacpState16::Synchronization,
+        },
+        Flag {
+            name: "Collecting",
+            value: LacpState16::Collecting,
+        },
+        Flag {
+            name: "Distributing",
+            value: LacpState16::Distributing,
+        },
+        Flag {
+            name: "Defaulted",
+            value: LacpState16::Defaulted,
+        },
+        Flag {
+            name: "Expired",
+            value: LacpState16::Expired,
+        },
+        Flag {
+            name: "",
+            value: LacpState16(u16::MAX),
+        },
+    ];
+}
+
+impl Flags for LacpState16 {
+    type Bits = u16;
+
+    ghost use Rattle.std.specs.Prelude.{⊤};
+    ghost use Rattle.linkinfo_numbers.specs.Bond.{lacp_state16_table};
+
+    ghost exact = { ⊤ };
+
+    ghost table = { lacp_state16_table };
+
+    ghost set_of = { λ set. set.0 };
+
+    fn flags<'a>() -> &'a [Flag<LacpState16>] {
+        LacpState16::TABLE
+    }
+
+    fn bits(&self) -> u16 {
+        self.0
+    }
+
+    fn from_bits_retain(bits: u16) -> LacpState16 {
+        LacpState16(bits)
+    }
+}
+
+impl KeepsEveryBit for LacpState16 {
+    ghost use Rattle.linkinfo_numbers.specs.Flags.{every_bit_16};
+    ghost use Rattle.linkinfo_numbers.specs.Bond.{lacp_state16_table, lacp_state16_known};
+
+    ghost has_contracts = { tt };
+
+    ghost every_bit = { every_bit_16 lacp_state16_table lacp_state16_known };
+}
+
+/// The default is the empty set.
+impl Default for LacpState16 {
+    ghost is_default = { λ set. set.0 ≡ 0 };
+
+    fn default() -> LacpState16 {
+        LacpState16(0)
+    }
+}
+
+impl ExactEq for LacpState16 {
+    ghost use Rattle.std.proofs.Common.{rules};
+
+    ghost exact = { Prim.search rules };
+}
+
+/// Whether something is on, where the kernel takes no other numbers, as `IFLA_BOND_AD_LACP_ACTIVE`,
+/// one byte (include/uapi/linux/if_link.h).
+#[derive(Clone, Copy, Debug, PartialEq, Eq)]
+pub enum OnOff {
+    /// It is off (0).
+    Off,
+    /// It is on (1).
+    On,
+    /// Any number without a name.
+    Other(u8),
+}
+
+macro_rules! switches {
+    ($body:ident $given:tt) => {
+        $body! { OnOff $given;
+            (Off, 0, "off"),
+            (On, 1, "on"),
+        }
+    };
+}
+
+impl From<u8> for OnOff {
+    ghost use Rattle.linkinfo_numbers.specs.Bond.{on_off};
+
+    ghost from_gives = { λ number switch. switch ≡ on_off number };
+
+    fn from(number: u8) -> OnOff {
+        switches!(value_of_number number)
+    }
+}
+
+impl From<OnOff> for u8 {
+    ghost use Rattle.linkinfo_numbers.specs.Bond.{on_off_number};
+
+    ghost from_gives = { λ switch number. number ≡ on_off_number switch };
+
+    fn from(switch: OnOff) -> u8 {
+        switches!(number_of_value switch)
+    }
+}
+
+impl fmt::Display for OnOff {
+    ghost use Rattle.std.specs.Prelude.{Some};
+    ghost use Rattle.linkinfo_numbers.specs.Bond.{on_off_text};
+
+    ghost output = { λ switch. Some (on_off_text switch) };
+
+    fn fmt<W: fmt::Write>(&self, f: &mut fmt::Formatter<W>) -> fmt::Result {
+        switches!(write_word(self, f))
+    }
+}
+
+/// Every text that `Display` does not write is rejected as `(Bond, 0, Word)`.
+impl FromStr for OnOff {
+    type Err = DecodeError;
+
+    ghost use Rattle.linkinfo_numbers.specs.Bond.{on_off_of_word};
+
+    ghost from_str_gives = { λ word result. result ≡ on_off_of_word word };
+
+    fn from_str(word: &str) -> Result<OnOff, DecodeError> {
+        switches!(value_of_word(word, Family::Bond))
+    }
+}
+
+impl Default for OnOff {
+    ghost use Rattle.linkinfo_numbers.specs.declared.bond.OnOff.TheVariants.{Off};
+
+    ghost is_default = { λ switch. switch ≡ Off };
+
+    fn default() -> OnOff {
+        OnOff::Off
+    }
+}
+
+impl ExactEq for OnOff {
+    ghost use Rattle.std.proofs.Common.{rules};
+
+    ghost exact = { Prim.search rules };
+}

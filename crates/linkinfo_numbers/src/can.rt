@@ -1,0 +1,273 @@
+// Written by tables/generate from tables/numbers/can.
+//! CAN devices.
+
+ghost use Rattle.std.specs.Prelude.{◌≡◌};
+
+use crate::by_values::{number_of_value, value_of_number, value_of_word, write_word};
+use crate::flags::KeepsEveryBit;
+use bitflags::{Flag, Flags};
+use nla_frame::{DecodeError, ExactEq, Family};
+use std::fmt;
+use std::str::FromStr;
+
+/// The state of a CAN device: `IFLA_CAN_STATE`, a little-endian 32-bit number
+/// (include/uapi/linux/can/netlink.h).
+#[derive(Clone, Copy, Debug, PartialEq, Eq)]
+pub enum CanState {
+    /// `CAN_STATE_ERROR_ACTIVE`: fewer than 96 errors.
+    ErrorActive,
+    /// `CAN_STATE_ERROR_WARNING`: fewer than 128 errors.
+    ErrorWarning,
+    /// `CAN_STATE_ERROR_PASSIVE`: fewer than 256 errors.
+    ErrorPassive,
+    /// `CAN_STATE_BUS_OFF`: 256 errors or more.
+    BusOff,
+    /// `CAN_STATE_STOPPED`: the device is stopped.
+    Stopped,
+    /// `CAN_STATE_SLEEPING`: the device sleeps.
+    Sleeping,
+    /// Any number without a name.
+    Other(u32),
+}
+
+macro_rules! states {
+    ($body:ident $given:tt) => {
+        $body! { CanState $given;
+            (ErrorActive, 0, "ERROR-ACTIVE"),
+            (ErrorWarning, 1, "ERROR-WARNING"),
+            (ErrorPassive, 2, "ERROR-PASSIVE"),
+            (BusOff, 3, "BUS-OFF"),
+            (Stopped, 4, "STOPPED"),
+            (Sleeping, 5, "SLEEPING"),
+        }
+    };
+}
+
+impl From<u32> for CanState {
+    ghost use Rattle.linkinfo_numbers.specs.Can.{can_state};
+
+    ghost from_gives = { λ number state. state ≡ can_state number };
+
+    fn from(number: u32) -> CanState {
+        states!(value_of_number number)
+    }
+}
+
+impl From<CanState> for u32 {
+    ghost use Rattle.linkinfo_numbers.specs.Can.{can_state_number};
+
+    ghost from_gives = { λ state number. number ≡ can_state_number state };
+
+    fn from(state: CanState) -> u32 {
+        states!(number_of_value state)
+    }
+}
+
+impl fmt::Display for CanState {
+    ghost use Rattle.std.specs.Prelude.{Some};
+    ghost use Rattle.linkinfo_numbers.specs.Can.{can_state_text};
+
+    ghost output = { λ state. Some (can_state_text state) };
+
+    fn fmt<W: fmt::Write>(&self, f: &mut fmt::Formatter<W>) -> fmt::Result {
+        states!(write_word(self, f))
+    }
+}
+
+/// Every text that `Display` does not write is rejected as `(Can, 0, Word)`.
+impl FromStr for CanState {
+    type Err = DecodeError;
+
+    ghost use Rattle.linkinfo_numbers.specs.Can.{can_state_of_word};
+
+    ghost from_str_gives = { λ word result. result ≡ can_state_of_word word };
+
+    fn from_str(word: &str) -> Result<CanState, DecodeError> {
+        states!(value_of_word(word, Family::Can))
+    }
+}
+
+impl ExactEq for CanState {
+    ghost use Rattle.std.proofs.Common.{rules};
+
+    ghost exact = { Prim.search rules };
+}
+
+/// The modes of a CAN device: `mask` and `flags` of `struct can_ctrlmode`, and
+/// `IFLA_CAN_CTRLMODE_SUPPORTED`, little-endian 32-bit numbers (include/uapi/linux/can/netlink.h).
+/// Every 32-bit number is a valid set.
+#[derive(Clone, Copy, Debug, PartialEq, Eq)]
+pub struct CanCtrlModeFlags(u32);
+
+impl CanCtrlModeFlags {
+    /// `CAN_CTRLMODE_LOOPBACK`: frames come back.
+    pub const Loopback: CanCtrlModeFlags = CanCtrlModeFlags(0x1);
+
+    /// `CAN_CTRLMODE_LISTENONLY`: nothing is sent.
+    pub const ListenOnly: CanCtrlModeFlags = CanCtrlModeFlags(0x2);
+
+    /// `CAN_CTRLMODE_3_SAMPLES`: each bit is sampled three times.
+    pub const TripleSampling: CanCtrlModeFlags = CanCtrlModeFlags(0x4);
+
+    /// `CAN_CTRLMODE_ONE_SHOT`: a frame is sent once.
+    pub const OneShot: CanCtrlModeFlags = CanCtrlModeFlags(0x8);
+
+    /// `CAN_CTRLMODE_BERR_REPORTING`: errors of the bus are reported.
+    pub const BerrReporting: CanCtrlModeFlags = CanCtrlModeFlags(0x10);
+
+    /// `CAN_CTRLMODE_FD`: CAN FD.
+    pub const Fd: CanCtrlModeFlags = CanCtrlModeFlags(0x20);
+
+    /// `CAN_CTRLMODE_PRESUME_ACK`: missing acknowledgements are ignored.
+    pub const PresumeAck: CanCtrlModeFlags = CanCtrlModeFlags(0x40);
+
+    /// `CAN_CTRLMODE_FD_NON_ISO`: CAN FD as before ISO 11898-1:2015.
+    pub const FdNonIso: CanCtrlModeFlags = CanCtrlModeFlags(0x80);
+
+    /// `CAN_CTRLMODE_CC_LEN8_DLC`: length codes 9 to 15 of classical frames.
+    pub const CcLen8Dlc: CanCtrlModeFlags = CanCtrlModeFlags(0x100);
+
+    /// `CAN_CTRLMODE_TDC_AUTO`: the delay of CAN FD is measured.
+    pub const TdcAuto: CanCtrlModeFlags = CanCtrlModeFlags(0x200);
+
+    /// `CAN_CTRLMODE_TDC_MANUAL`: the delay of CAN FD is set.
+    pub const TdcManual: CanCtrlModeFlags = CanCtrlModeFlags(0x400);
+
+    /// `CAN_CTRLMODE_RESTRICTED`: nothing disturbs the bus.
+    pub const Restricted: CanCtrlModeFlags = CanCtrlModeFlags(0x800);
+
+    /// `CAN_CTRLMODE_XL`: CAN XL.
+    pub const Xl: CanCtrlModeFlags = CanCtrlModeFlags(0x1000);
+
+    /// `CAN_CTRLMODE_XL_TDC_AUTO`: the delay of CAN XL is measured.
+    pub const XlTdcAuto: CanCtrlModeFlags = CanCtrlModeFlags(0x2000);
+
+    /// `CAN_CTRLMODE_XL_TDC_MANUAL`: the delay of CAN XL is set.
+    pub const XlTdcManual: CanCtrlModeFlags = CanCtrlModeFlags(0x4000);
+
+    /// `CAN_CTRLMODE_XL_TMS`: transceiver mode switching.
+    pub const XlTms: CanCtrlModeFlags = CanCtrlModeFlags(0x8000);
+
+    const TABLE: &'static [Flag<CanCtrlModeFlags>] = &[
+        Flag {
+            name: "Loopback",
+            value: CanCtrlModeFlags::Loopback,
+        },
+        Flag {
+            name: "ListenOnly",
+            value: CanCtrlModeFlags::ListenOnly,
+        },
+        Flag {
+            name: "TripleSampling",
+            value: CanCtrlModeFlags::TripleSampling,
+        },
+        Flag {
+            name: "OneShot",
+            value: CanCtrlModeFlags::OneShot,
+        },
+        Flag {
+            name: "BerrReporting",
+            value: CanCtrlModeFlags::BerrReporting,
+        },
+        Flag {
+            name: "Fd",
+            value: CanCtrlModeFlags::Fd,
+        },
+        Flag {
+            name: "PresumeAck",
+            value: CanCtrlModeFlags::PresumeAck,
+        },
+        Flag {
+            name: "FdNonIso",
+            value: CanCtrlModeFlags::FdNonIso,
+        },
+        Flag {
+            name: "CcLen8Dlc",
+            value: CanCtrlModeFlags::CcLen8Dlc,
+        },
+        Flag {
+            name: "TdcAuto",
+            value: CanCtrlModeFlags::TdcAuto,
+        },
+        Flag {
+            name: "TdcManual",
+            value: CanCtrlModeFlags::TdcManual,
+        },
+        Flag {
+            name: "Restricted",
+            value: CanCtrlModeFlags::Restricted,
+        },
+        Flag {
+            name: "Xl",
+            value: CanCtrlModeFlags::Xl,
+        },
+        Flag {
+            name: "XlTdcAuto",
+            value: CanCtrlModeFlags::XlTdcAuto,
+        },
+        Flag {
+            name: "XlTdcManual",
+            value: CanCtrlModeFlags::XlTdcManual,
+        },
+        Flag {
+            name: "XlTms",
+            value: CanCtrlModeFlags::XlTms,
+        },
+        Flag {
+            name: "",
+            value: CanCtrlModeFlags(u32::MAX),
+        },
+    ];
+}
+
+impl Flags for CanCtrlModeFlags {
+    type Bits = u32;
+
+    ghost use Rattle.std.specs.Prelude.{⊤};
+    ghost use Rattle.linkinfo_numbers.specs.Can.{can_ctrl_mode_flags_table};
+
+    ghost exact = { ⊤ };
+
+    ghost table = { can_ctrl_mode_flags_table };
+
+    ghost set_of = { λ set. set.0 };
+
+    fn flags<'a>() -> &'a [Flag<CanCtrlModeFlags>] {
+        CanCtrlModeFlags::TABLE
+    }
+
+    fn bits(&self) -> u32 {
+        self.0
+    }
+
+    fn from_bits_retain(bits: u32) -> CanCtrlModeFlags {
+        CanCtrlModeFlags(bits)
+    }
+}
+
+impl KeepsEveryBit for CanCtrlModeFlags {
+    ghost use Rattle.linkinfo_numbers.specs.Flags.{every_bit_32};
+    ghost use Rattle.linkinfo_numbers.specs.Can.{
+      can_ctrl_mode_flags_table,
+      can_ctrl_mode_flags_known,
+    };
+
+    ghost has_contracts = { tt };
+
+    ghost every_bit = { every_bit_32 can_ctrl_mode_flags_table can_ctrl_mode_flags_known };
+}
+
+/// The default is the empty set.
+impl Default for CanCtrlModeFlags {
+    ghost is_default = { λ set. set.0 ≡ 0 };
+
+    fn default() -> CanCtrlModeFlags {
+        CanCtrlModeFlags(0)
+    }
+}
+
+impl ExactEq for CanCtrlModeFlags {
+    ghost use Rattle.std.proofs.Common.{rules};
+
+    ghost exact = { Prim.search rules };
+}

@@ -1,0 +1,309 @@
+-- Written by tables/generate from tables/bridge.
+-- A type without a row in the list has no row in the table. For any other type the table says which
+-- value is stored. A search would read the whole table once per row.
+use Rattle.std.proofs.Common.{ap, rules, refl}
+use Rattle.linkinfo_table.specs.FamilyRowLaws.{no_row_read, row_stored}
+use Rattle.linkinfo_typed.specs.declared.bridge.InfoBridge.TheVariants.{
+  StpState,
+  VlanProtocol,
+  MulticastRouter,
+  VlanStatsEnabled,
+  VlanStatsPerPort,
+  MultiBoolOpt,
+  StpMode,
+  Other,
+}
+use Rattle.linkinfo_typed.specs.Bridge.{bridge_plain, bridge_rows, bridge_suits}
+use Rattle.linkinfo_typed.proofs.bridge.InfoBridgeRowFamily.store_decoded.Goals as goal
+
+pub store_by_rows-unreachable-requires : goal.store_by_rows-unreachable-requires
+store_by_rows-unreachable-requires g c =
+    no_row_read bridge_plain c.args.decoded c.in-Typed-store_by_rows.field-0
+    c.in-Typed-store_by_rows.field-1 c.in-Typed-store_by_rows.is (search rules)
+    (bridge_suits c.args.decoded c.requires)
+
+pub unreachable-store_by_rows : goal.unreachable-store_by_rows
+unreachable-store_by_rows g c =
+    no_row_read bridge_plain c.args.decoded c.in-Typed-store_by_rows.field-0
+    c.in-Typed-store_by_rows.field-1 c.in-Typed-store_by_rows.is (search rules)
+    (bridge_suits c.args.decoded c.requires)
+
+pub returns-in-1 : goal.returns-in-1
+returns-in-1 g c =
+    row_stored (g.P.Slot.with c.args.slot.now) (λ d. Other d) _ _ _ (λ n. bridge_rows n) refl
+    c.in-Typed-store_by_rows.is c.in-1.is c.requires c.store_by_rows-u32_or_zero.ensures.le32.0 refl
+    c.store_by_rows-store-in-1.ensures
+
+pub returns-in-2 : goal.returns-in-2
+returns-in-2 g c =
+    row_stored (g.P.Slot.with c.args.slot.now) (λ d. Other d) _ _ _ (λ n. bridge_rows n) refl
+    c.in-Typed-store_by_rows.is c.in-2.is c.requires c.store_by_rows-u32_or_zero-in-2.ensures.le32.0
+    refl c.store_by_rows-store-in-2.ensures
+
+pub returns-in-3 : goal.returns-in-3
+returns-in-3 g c =
+    row_stored (g.P.Slot.with c.args.slot.now) (λ d. Other d) _ _ _ (λ n. bridge_rows n) refl
+    c.in-Typed-store_by_rows.is c.in-3.is c.requires c.store_by_rows-u32_or_zero-in-3.ensures.le32.0
+    refl c.store_by_rows-store-in-3.ensures
+
+pub returns-in-4 : goal.returns-in-4
+returns-in-4 g c =
+    row_stored (g.P.Slot.with c.args.slot.now) (λ d. Other d) _ _ _ (λ n. bridge_rows n) refl
+    c.in-Typed-store_by_rows.is c.in-4.is c.requires c.store_by_rows-u32_or_zero-in-4.ensures.le32.0
+    refl c.store_by_rows-store-in-4.ensures
+
+pub returns-in-5 : goal.returns-in-5
+returns-in-5 g c =
+    row_stored (g.P.Slot.with c.args.slot.now) (λ d. Other d) _ _ _ (λ n. bridge_rows n) refl
+    c.in-Typed-store_by_rows.is c.in-5.is c.requires c.store_by_rows-u32_or_zero-in-5.ensures.le32.0
+    (ap (λ x. StpState x) c.store_by_rows-from.ensures) c.store_by_rows-store-in-5.ensures
+
+pub returns-in-6 : goal.returns-in-6
+returns-in-6 g c =
+    row_stored (g.P.Slot.with c.args.slot.now) (λ d. Other d) _ _ _ (λ n. bridge_rows n) refl
+    c.in-Typed-store_by_rows.is c.in-6.is c.requires c.store_by_rows-u16_or_zero.ensures.le16.0 refl
+    c.store_by_rows-store-in-6.ensures
+
+pub returns-in-7 : goal.returns-in-7
+returns-in-7 g c =
+    row_stored (g.P.Slot.with c.args.slot.now) (λ d. Other d) _ _ _ (λ n. bridge_rows n) refl
+    c.in-Typed-store_by_rows.is c.in-7.is c.requires c.store_by_rows-bool_or_false.ensures.truth.0
+    refl c.store_by_rows-store-in-7.ensures
+
+pub returns-in-8 : goal.returns-in-8
+returns-in-8 g c =
+    row_stored (g.P.Slot.with c.args.slot.now) (λ d. Other d) _ _ _ (λ n. bridge_rows n) refl
+    c.in-Typed-store_by_rows.is c.in-8.is c.requires c.store_by_rows-u16_or_zero-in-8.ensures.be16.0
+    (ap (λ x. VlanProtocol x) c.store_by_rows-from-in-8.ensures) c.store_by_rows-store-in-8.ensures
+
+pub returns-in-9 : goal.returns-in-9
+returns-in-9 g c =
+    row_stored (g.P.Slot.with c.args.slot.now) (λ d. Other d) _ _ _ (λ n. bridge_rows n) refl
+    c.in-Typed-store_by_rows.is c.in-9.is c.requires c.store_by_rows-u16_or_zero-in-9.ensures.le16.0
+    refl c.store_by_rows-store-in-9.ensures
+
+pub returns-in-12 : goal.returns-in-12
+returns-in-12 g c =
+    row_stored (g.P.Slot.with c.args.slot.now) (λ d. Other d) _ _ _ (λ n. bridge_rows n) refl
+    c.in-Typed-store_by_rows.is c.in-12.is c.requires
+    c.store_by_rows-u16_or_zero-in-12.ensures.le16.0 refl c.store_by_rows-store-in-12.ensures
+
+pub returns-in-13 : goal.returns-in-13
+returns-in-13 g c =
+    row_stored (g.P.Slot.with c.args.slot.now) (λ d. Other d) _ _ _ (λ n. bridge_rows n) refl
+    c.in-Typed-store_by_rows.is c.in-13.is c.requires
+    c.store_by_rows-u32_or_zero-in-13.ensures.le32.0 refl c.store_by_rows-store-in-13.ensures
+
+pub returns-in-14 : goal.returns-in-14
+returns-in-14 g c =
+    row_stored (g.P.Slot.with c.args.slot.now) (λ d. Other d) _ _ _ (λ n. bridge_rows n) refl
+    c.in-Typed-store_by_rows.is c.in-14.is c.requires c.store_by_rows-u8_or_zero.ensures.0 refl
+    c.store_by_rows-store-in-14.ensures
+
+pub returns-in-15 : goal.returns-in-15
+returns-in-15 g c =
+    row_stored (g.P.Slot.with c.args.slot.now) (λ d. Other d) _ _ _ (λ n. bridge_rows n) refl
+    c.in-Typed-store_by_rows.is c.in-15.is c.requires c.store_by_rows-u8_or_zero-in-15.ensures.0
+    refl c.store_by_rows-store-in-15.ensures
+
+pub returns-in-16 : goal.returns-in-16
+returns-in-16 g c =
+    row_stored (g.P.Slot.with c.args.slot.now) (λ d. Other d) _ _ _ (λ n. bridge_rows n) refl
+    c.in-Typed-store_by_rows.is c.in-16.is c.requires c.store_by_rows-u64_or_zero.ensures.le64.0
+    refl c.store_by_rows-store-in-16.ensures
+
+pub returns-in-17 : goal.returns-in-17
+returns-in-17 g c =
+    row_stored (g.P.Slot.with c.args.slot.now) (λ d. Other d) _ _ _ (λ n. bridge_rows n) refl
+    c.in-Typed-store_by_rows.is c.in-17.is c.requires
+    c.store_by_rows-u64_or_zero-in-17.ensures.le64.0 refl c.store_by_rows-store-in-17.ensures
+
+pub returns-in-18 : goal.returns-in-18
+returns-in-18 g c =
+    row_stored (g.P.Slot.with c.args.slot.now) (λ d. Other d) _ _ _ (λ n. bridge_rows n) refl
+    c.in-Typed-store_by_rows.is c.in-18.is c.requires
+    c.store_by_rows-u64_or_zero-in-18.ensures.le64.0 refl c.store_by_rows-store-in-18.ensures
+
+pub returns-in-19 : goal.returns-in-19
+returns-in-19 g c =
+    row_stored (g.P.Slot.with c.args.slot.now) (λ d. Other d) _ _ _ (λ n. bridge_rows n) refl
+    c.in-Typed-store_by_rows.is c.in-19.is c.requires
+    c.store_by_rows-u64_or_zero-in-19.ensures.le64.0 refl c.store_by_rows-store-in-19.ensures
+
+pub returns-in-20 : goal.returns-in-20
+returns-in-20 g c =
+    row_stored (g.P.Slot.with c.args.slot.now) (λ d. Other d) _ _ _ (λ n. bridge_rows n) refl
+    c.in-Typed-store_by_rows.is c.in-20.is c.requires c.store_by_rows-mac_or_zeros.ensures.0 refl
+    c.store_by_rows-store-in-20.ensures
+
+pub returns-in-21 : goal.returns-in-21
+returns-in-21 g c =
+    row_stored (g.P.Slot.with c.args.slot.now) (λ d. Other d) _ _ _ (λ n. bridge_rows n) refl
+    c.in-Typed-store_by_rows.is c.in-21.is c.requires (λ _. refl) refl
+    c.store_by_rows-store-in-21.ensures
+
+pub returns-in-22 : goal.returns-in-22
+returns-in-22 g c =
+    row_stored (g.P.Slot.with c.args.slot.now) (λ d. Other d) _ _ _ (λ n. bridge_rows n) refl
+    c.in-Typed-store_by_rows.is c.in-22.is c.requires c.store_by_rows-u8_or_zero-in-22.ensures.0
+    (ap (λ x. MulticastRouter x) c.store_by_rows-from-in-22.ensures)
+    c.store_by_rows-store-in-22.ensures
+
+pub returns-in-23 : goal.returns-in-23
+returns-in-23 g c =
+    row_stored (g.P.Slot.with c.args.slot.now) (λ d. Other d) _ _ _ (λ n. bridge_rows n) refl
+    c.in-Typed-store_by_rows.is c.in-23.is c.requires
+    c.store_by_rows-bool_or_false-in-23.ensures.truth.0 refl c.store_by_rows-store-in-23.ensures
+
+pub returns-in-24 : goal.returns-in-24
+returns-in-24 g c =
+    row_stored (g.P.Slot.with c.args.slot.now) (λ d. Other d) _ _ _ (λ n. bridge_rows n) refl
+    c.in-Typed-store_by_rows.is c.in-24.is c.requires
+    c.store_by_rows-bool_or_false-in-24.ensures.truth.0 refl c.store_by_rows-store-in-24.ensures
+
+pub returns-in-25 : goal.returns-in-25
+returns-in-25 g c =
+    row_stored (g.P.Slot.with c.args.slot.now) (λ d. Other d) _ _ _ (λ n. bridge_rows n) refl
+    c.in-Typed-store_by_rows.is c.in-25.is c.requires
+    c.store_by_rows-bool_or_false-in-25.ensures.truth.0 refl c.store_by_rows-store-in-25.ensures
+
+pub returns-in-26 : goal.returns-in-26
+returns-in-26 g c =
+    row_stored (g.P.Slot.with c.args.slot.now) (λ d. Other d) _ _ _ (λ n. bridge_rows n) refl
+    c.in-Typed-store_by_rows.is c.in-26.is c.requires
+    c.store_by_rows-u32_or_zero-in-26.ensures.le32.0 refl c.store_by_rows-store-in-26.ensures
+
+pub returns-in-27 : goal.returns-in-27
+returns-in-27 g c =
+    row_stored (g.P.Slot.with c.args.slot.now) (λ d. Other d) _ _ _ (λ n. bridge_rows n) refl
+    c.in-Typed-store_by_rows.is c.in-27.is c.requires
+    c.store_by_rows-u32_or_zero-in-27.ensures.le32.0 refl c.store_by_rows-store-in-27.ensures
+
+pub returns-in-28 : goal.returns-in-28
+returns-in-28 g c =
+    row_stored (g.P.Slot.with c.args.slot.now) (λ d. Other d) _ _ _ (λ n. bridge_rows n) refl
+    c.in-Typed-store_by_rows.is c.in-28.is c.requires
+    c.store_by_rows-u32_or_zero-in-28.ensures.le32.0 refl c.store_by_rows-store-in-28.ensures
+
+pub returns-in-29 : goal.returns-in-29
+returns-in-29 g c =
+    row_stored (g.P.Slot.with c.args.slot.now) (λ d. Other d) _ _ _ (λ n. bridge_rows n) refl
+    c.in-Typed-store_by_rows.is c.in-29.is c.requires
+    c.store_by_rows-u32_or_zero-in-29.ensures.le32.0 refl c.store_by_rows-store-in-29.ensures
+
+pub returns-in-30 : goal.returns-in-30
+returns-in-30 g c =
+    row_stored (g.P.Slot.with c.args.slot.now) (λ d. Other d) _ _ _ (λ n. bridge_rows n) refl
+    c.in-Typed-store_by_rows.is c.in-30.is c.requires
+    c.store_by_rows-u64_or_zero-in-30.ensures.le64.0 refl c.store_by_rows-store-in-30.ensures
+
+pub returns-in-31 : goal.returns-in-31
+returns-in-31 g c =
+    row_stored (g.P.Slot.with c.args.slot.now) (λ d. Other d) _ _ _ (λ n. bridge_rows n) refl
+    c.in-Typed-store_by_rows.is c.in-31.is c.requires
+    c.store_by_rows-u64_or_zero-in-31.ensures.le64.0 refl c.store_by_rows-store-in-31.ensures
+
+pub returns-in-32 : goal.returns-in-32
+returns-in-32 g c =
+    row_stored (g.P.Slot.with c.args.slot.now) (λ d. Other d) _ _ _ (λ n. bridge_rows n) refl
+    c.in-Typed-store_by_rows.is c.in-32.is c.requires
+    c.store_by_rows-u64_or_zero-in-32.ensures.le64.0 refl c.store_by_rows-store-in-32.ensures
+
+pub returns-in-33 : goal.returns-in-33
+returns-in-33 g c =
+    row_stored (g.P.Slot.with c.args.slot.now) (λ d. Other d) _ _ _ (λ n. bridge_rows n) refl
+    c.in-Typed-store_by_rows.is c.in-33.is c.requires
+    c.store_by_rows-u64_or_zero-in-33.ensures.le64.0 refl c.store_by_rows-store-in-33.ensures
+
+pub returns-in-34 : goal.returns-in-34
+returns-in-34 g c =
+    row_stored (g.P.Slot.with c.args.slot.now) (λ d. Other d) _ _ _ (λ n. bridge_rows n) refl
+    c.in-Typed-store_by_rows.is c.in-34.is c.requires
+    c.store_by_rows-u64_or_zero-in-34.ensures.le64.0 refl c.store_by_rows-store-in-34.ensures
+
+pub returns-in-35 : goal.returns-in-35
+returns-in-35 g c =
+    row_stored (g.P.Slot.with c.args.slot.now) (λ d. Other d) _ _ _ (λ n. bridge_rows n) refl
+    c.in-Typed-store_by_rows.is c.in-35.is c.requires
+    c.store_by_rows-u64_or_zero-in-35.ensures.le64.0 refl c.store_by_rows-store-in-35.ensures
+
+pub returns-in-36 : goal.returns-in-36
+returns-in-36 g c =
+    row_stored (g.P.Slot.with c.args.slot.now) (λ d. Other d) _ _ _ (λ n. bridge_rows n) refl
+    c.in-Typed-store_by_rows.is c.in-36.is c.requires
+    c.store_by_rows-bool_or_false-in-36.ensures.truth.0 refl c.store_by_rows-store-in-36.ensures
+
+pub returns-in-37 : goal.returns-in-37
+returns-in-37 g c =
+    row_stored (g.P.Slot.with c.args.slot.now) (λ d. Other d) _ _ _ (λ n. bridge_rows n) refl
+    c.in-Typed-store_by_rows.is c.in-37.is c.requires
+    c.store_by_rows-bool_or_false-in-37.ensures.truth.0 refl c.store_by_rows-store-in-37.ensures
+
+pub returns-in-38 : goal.returns-in-38
+returns-in-38 g c =
+    row_stored (g.P.Slot.with c.args.slot.now) (λ d. Other d) _ _ _ (λ n. bridge_rows n) refl
+    c.in-Typed-store_by_rows.is c.in-38.is c.requires
+    c.store_by_rows-bool_or_false-in-38.ensures.truth.0 refl c.store_by_rows-store-in-38.ensures
+
+pub returns-in-39 : goal.returns-in-39
+returns-in-39 g c =
+    row_stored (g.P.Slot.with c.args.slot.now) (λ d. Other d) _ _ _ (λ n. bridge_rows n) refl
+    c.in-Typed-store_by_rows.is c.in-39.is c.requires
+    c.store_by_rows-u16_or_zero-in-39.ensures.le16.0 refl c.store_by_rows-store-in-39.ensures
+
+pub returns-in-41 : goal.returns-in-41
+returns-in-41 g c =
+    row_stored (g.P.Slot.with c.args.slot.now) (λ d. Other d) _ _ _ (λ n. bridge_rows n) refl
+    c.in-Typed-store_by_rows.is c.in-41.is c.requires c.store_by_rows-u8_or_zero-in-41.ensures.0
+    (ap (λ x. VlanStatsEnabled x) c.store_by_rows-from-in-41.ensures)
+    c.store_by_rows-store-in-41.ensures
+
+pub returns-in-42 : goal.returns-in-42
+returns-in-42 g c =
+    row_stored (g.P.Slot.with c.args.slot.now) (λ d. Other d) _ _ _ (λ n. bridge_rows n) refl
+    c.in-Typed-store_by_rows.is c.in-42.is c.requires
+    c.store_by_rows-bool_or_false-in-42.ensures.truth.0 refl c.store_by_rows-store-in-42.ensures
+
+pub returns-in-43 : goal.returns-in-43
+returns-in-43 g c =
+    row_stored (g.P.Slot.with c.args.slot.now) (λ d. Other d) _ _ _ (λ n. bridge_rows n) refl
+    c.in-Typed-store_by_rows.is c.in-43.is c.requires c.store_by_rows-u8_or_zero-in-43.ensures.0
+    refl c.store_by_rows-store-in-43.ensures
+
+pub returns-in-44 : goal.returns-in-44
+returns-in-44 g c =
+    row_stored (g.P.Slot.with c.args.slot.now) (λ d. Other d) _ _ _ (λ n. bridge_rows n) refl
+    c.in-Typed-store_by_rows.is c.in-44.is c.requires c.store_by_rows-u8_or_zero-in-44.ensures.0
+    refl c.store_by_rows-store-in-44.ensures
+
+pub returns-in-45 : goal.returns-in-45
+returns-in-45 g c =
+    row_stored (g.P.Slot.with c.args.slot.now) (λ d. Other d) _ _ _ (λ n. bridge_rows n) refl
+    c.in-Typed-store_by_rows.is c.in-45.is c.requires c.store_by_rows-u8_or_zero-in-45.ensures.0
+    (ap (λ x. VlanStatsPerPort x) c.store_by_rows-from-in-45.ensures)
+    c.store_by_rows-store-in-45.ensures
+
+pub returns-in-46 : goal.returns-in-46
+returns-in-46 g c =
+    row_stored (g.P.Slot.with c.args.slot.now) (λ d. Other d) _ _ _ (λ n. bridge_rows n) refl
+    c.in-Typed-store_by_rows.is c.in-46.is c.requires c.store_by_rows-u32_pair_or_zeros.ensures.0
+    (ap (λ x. MultiBoolOpt x) c.store_by_rows-flags_of.ensures) c.store_by_rows-store-in-46.ensures
+
+pub returns-in-48 : goal.returns-in-48
+returns-in-48 g c =
+    row_stored (g.P.Slot.with c.args.slot.now) (λ d. Other d) _ _ _ (λ n. bridge_rows n) refl
+    c.in-Typed-store_by_rows.is c.in-48.is c.requires
+    c.store_by_rows-u32_or_zero-in-48.ensures.le32.0 refl c.store_by_rows-store-in-48.ensures
+
+pub returns-in-49 : goal.returns-in-49
+returns-in-49 g c =
+    row_stored (g.P.Slot.with c.args.slot.now) (λ d. Other d) _ _ _ (λ n. bridge_rows n) refl
+    c.in-Typed-store_by_rows.is c.in-49.is c.requires
+    c.store_by_rows-u32_or_zero-in-49.ensures.le32.0 refl c.store_by_rows-store-in-49.ensures
+
+pub returns-in-50 : goal.returns-in-50
+returns-in-50 g c =
+    row_stored (g.P.Slot.with c.args.slot.now) (λ d. Other d) _ _ _ (λ n. bridge_rows n) refl
+    c.in-Typed-store_by_rows.is c.in-50.is c.requires
+    c.store_by_rows-u32_or_zero-in-50.ensures.le32.0
+    (ap (λ x. StpMode x) c.store_by_rows-from-in-50.ensures) c.store_by_rows-store-in-50.ensures

@@ -1,0 +1,546 @@
+// Written by tables/generate from tables/bridge.
+//! Bridges.
+
+ghost use Rattle.linkinfo_typed.specs.Bridge.{
+  flags_under_mask,
+  bridge_attribute,
+  bridge_elsewhere,
+  bridge_flat_elsewhere,
+  bridge_is_custom,
+  bridge_owes,
+  bridge_rows,
+  is_root_id,
+  is_bridge_id,
+  is_multicast_querier_state,
+};
+ghost use Rattle.linkinfo_typed.specs.declared.bridge.InfoBridge.TheVariants.{
+  RootId,
+  BridgeId,
+  MulticastQuerierState,
+  Other,
+};
+ghost use Rattle.linkinfo_table.specs.FamilyRows.{row_of};
+ghost use Rattle.linkinfo_table.specs.Rows.{meaning_in, memory_in};
+ghost use Rattle.linkinfo_table.specs.TypedRows.{has_payload};
+ghost use Rattle.nla_frame.specs.declared.error.Family.TheVariants as family;
+ghost use Rattle.std.specs.Prelude.{◌≡◌, false, true, refl};
+
+use crate::bridge_querier_state::BridgeQuerierState;
+use bitflags::Flags;
+use linkinfo_numbers::{
+    BridgeBooleanOptionFlags, BridgeMulticastRouterType, BridgeStpMode, BridgeStpState, OnOff,
+    VlanProtocol,
+};
+use linkinfo_payloads::BridgeId;
+use linkinfo_table::{
+    Both, CustomRows, Decoded, Encodable, LinkFamily, Lookup, PayloadRow, RowFamily, Slot,
+    TableFamily, encodable_by_rows, store_by_rows, typed_lookup,
+};
+use nla_frame::{
+    DecodeError, DefaultNla, ExactEq, Family, HeaderCount, Nla, NlaBuffer, Nlas, Parseable, laws,
+};
+use std::alloc::{AllocError, Global};
+use std::marker::PhantomData;
+
+/// An attribute in the data of a `bridge` link, an Ethernet bridge (include/uapi/linux/if_link.h).
+#[derive(Debug, PartialEq, Eq, Clone, Drop)]
+pub enum InfoBridge {
+    /// Delay until a port forwards, in 1/100 s (`IFLA_BR_FORWARD_DELAY`), little-endian.
+    ForwardDelay(u32),
+    /// Time between BPDUs, in 1/100 s (`IFLA_BR_HELLO_TIME`), little-endian.
+    HelloTime(u32),
+    /// Age at which the information of a BPDU is dropped, in 1/100 s (`IFLA_BR_MAX_AGE`),
+    /// little-endian.
+    MaxAge(u32),
+    /// Age at which a learned address is dropped, in 1/100 s (`IFLA_BR_AGEING_TIME`),
+    /// little-endian.
+    AgeingTime(u32),
+    /// Whether the Spanning Tree Protocol runs (`IFLA_BR_STP_STATE`), little-endian.
+    StpState(BridgeStpState),
+    /// Priority of the bridge (`IFLA_BR_PRIORITY`), little-endian.
+    Priority(u16),
+    /// Whether frames are filtered by VLAN (`IFLA_BR_VLAN_FILTERING`), one byte.
+    VlanFiltering(bool),
+    /// Protocol of VLAN tags (`IFLA_BR_VLAN_PROTOCOL`), big-endian.
+    VlanProtocol(VlanProtocol),
+    /// Mask of the link-local groups that are forwarded (`IFLA_BR_GROUP_FWD_MASK`), little-endian.
+    GroupFwdMask(u16),
+    /// Bridge that is the root (`IFLA_BR_ROOT_ID`), eight bytes.
+    RootId(BridgeId),
+    /// Identifier of the bridge (`IFLA_BR_BRIDGE_ID`), eight bytes.
+    BridgeId(BridgeId),
+    /// Number of the port toward the root (`IFLA_BR_ROOT_PORT`), little-endian.
+    RootPort(u16),
+    /// Cost of the path to the root (`IFLA_BR_ROOT_PATH_COST`), little-endian.
+    RootPathCost(u32),
+    /// Whether the topology changes, 0 or 1 (`IFLA_BR_TOPOLOGY_CHANGE`), one byte.
+    TopologyChange(u8),
+    /// Whether the bridge detected that the topology changes, 0 or 1
+    /// (`IFLA_BR_TOPOLOGY_CHANGE_DETECTED`), one byte.
+    TopologyChangeDetected(u8),
+    /// Time until the next BPDU, in 1/100 s (`IFLA_BR_HELLO_TIMER`), little-endian.
+    HelloTimer(u64),
+    /// Time until the next notification of a change, in 1/100 s (`IFLA_BR_TCN_TIMER`),
+    /// little-endian.
+    TcnTimer(u64),
+    /// Time until the change of the topology ends, in 1/100 s (`IFLA_BR_TOPOLOGY_CHANGE_TIMER`),
+    /// little-endian.
+    TopologyChangeTimer(u64),
+    /// Time until old addresses are dropped, in 1/100 s (`IFLA_BR_GC_TIMER`), little-endian.
+    GcTimer(u64),
+    /// Group address to which BPDUs are sent (`IFLA_BR_GROUP_ADDR`), six bytes.
+    GroupAddr([u8; 6]),
+    /// A command that drops the learned addresses (`IFLA_BR_FDB_FLUSH`), a presence flag.
+    FdbFlush,
+    /// Whether multicast routers are behind the bridge (`IFLA_BR_MCAST_ROUTER`), one byte.
+    MulticastRouter(BridgeMulticastRouterType),
+    /// Whether IGMP and MLD are followed (`IFLA_BR_MCAST_SNOOPING`), one byte.
+    MulticastSnooping(bool),
+    /// Whether queries have the address of the bridge as their source
+    /// (`IFLA_BR_MCAST_QUERY_USE_IFADDR`), one byte.
+    MulticastQueryUseIfaddr(bool),
+    /// Whether the bridge sends queries (`IFLA_BR_MCAST_QUERIER`), one byte.
+    MulticastQuerier(bool),
+    /// Not used any more (`IFLA_BR_MCAST_HASH_ELASTICITY`), little-endian.
+    MulticastHashElasticity(u32),
+    /// Most groups that are kept (`IFLA_BR_MCAST_HASH_MAX`), little-endian.
+    MulticastHashMax(u32),
+    /// Number of queries after a group was left (`IFLA_BR_MCAST_LAST_MEMBER_CNT`), little-endian.
+    MulticastLastMemberCount(u32),
+    /// Number of queries at the start (`IFLA_BR_MCAST_STARTUP_QUERY_CNT`), little-endian.
+    MulticastStartupQueryCount(u32),
+    /// Time between queries after a group was left, in 1/100 s (`IFLA_BR_MCAST_LAST_MEMBER_INTVL`),
+    /// little-endian.
+    MulticastLastMemberInterval(u64),
+    /// Time after which a group without reports is left, in 1/100 s
+    /// (`IFLA_BR_MCAST_MEMBERSHIP_INTVL`), little-endian.
+    MulticastMembershipInterval(u64),
+    /// Time after which another querier is taken as gone, in 1/100 s
+    /// (`IFLA_BR_MCAST_QUERIER_INTVL`), little-endian.
+    MulticastQuerierInterval(u64),
+    /// Time between queries, in 1/100 s (`IFLA_BR_MCAST_QUERY_INTVL`), little-endian.
+    MulticastQueryInterval(u64),
+    /// Time in which a query is to be answered, in 1/100 s (`IFLA_BR_MCAST_QUERY_RESPONSE_INTVL`),
+    /// little-endian.
+    MulticastQueryResponseInterval(u64),
+    /// Time between queries at the start, in 1/100 s (`IFLA_BR_MCAST_STARTUP_QUERY_INTVL`),
+    /// little-endian.
+    MulticastStartupQueryInterval(u64),
+    /// Whether packets go through `iptables` (`IFLA_BR_NF_CALL_IPTABLES`), one byte.
+    NfCallIpTables(bool),
+    /// Whether packets go through `ip6tables` (`IFLA_BR_NF_CALL_IP6TABLES`), one byte.
+    NfCallIp6Tables(bool),
+    /// Whether packets go through `arptables` (`IFLA_BR_NF_CALL_ARPTABLES`), one byte.
+    NfCallArpTables(bool),
+    /// VLAN of frames without a tag at a new port (`IFLA_BR_VLAN_DEFAULT_PVID`), little-endian.
+    VlanDefaultPvid(u16),
+    /// Whether frames are counted by VLAN (`IFLA_BR_VLAN_STATS_ENABLED`), one byte.
+    VlanStatsEnabled(OnOff),
+    /// Whether packets of IGMP and MLD are counted (`IFLA_BR_MCAST_STATS_ENABLED`), one byte.
+    MulticastStatsEnabled(bool),
+    /// Version of IGMP, 2 or 3 (`IFLA_BR_MCAST_IGMP_VERSION`), one byte.
+    MulticastIgmpVersion(u8),
+    /// Version of MLD, 1 or 2 (`IFLA_BR_MCAST_MLD_VERSION`), one byte.
+    MulticastMldVersion(u8),
+    /// Whether frames are counted by VLAN and port (`IFLA_BR_VLAN_STATS_PER_PORT`), one byte.
+    VlanStatsPerPort(OnOff),
+    /// Options, and the mask of the options to change (`IFLA_BR_MULTI_BOOLOPT`, `struct
+    /// br_boolopt_multi`), each little-endian.
+    MultiBoolOpt((BridgeBooleanOptionFlags, BridgeBooleanOptionFlags)),
+    /// Queriers that the bridge knows (`IFLA_BR_MCAST_QUERIER_STATE`), a nested list.
+    MulticastQuerierState(Nlas<BridgeQuerierState>),
+    /// Number of learned addresses (`IFLA_BR_FDB_N_LEARNED`), little-endian.
+    FdbNLearned(u32),
+    /// Most addresses that are learned, 0 for any number (`IFLA_BR_FDB_MAX_LEARNED`),
+    /// little-endian.
+    FdbMaxLearned(u32),
+    /// Who runs the Spanning Tree Protocol (`IFLA_BR_STP_MODE`), little-endian.
+    StpMode(BridgeStpMode),
+    /// An opaque attribute, of a type that has no variant here, kept verbatim.
+    Other(DefaultNla),
+}
+
+macro_rules! rows {
+    ($body:ident $given:tt) => {
+        $body! { InfoBridge $given;
+            (1, le32, ForwardDelay),
+            (2, le32, HelloTime),
+            (3, le32, MaxAge),
+            (4, le32, AgeingTime),
+            (5, le32, StpState as BridgeStpState),
+            (6, le16, Priority),
+            (7, truth, VlanFiltering),
+            (8, be16, VlanProtocol as VlanProtocol),
+            (9, le16, GroupFwdMask),
+            (10, custom, RootId),
+            (11, custom, BridgeId),
+            (12, le16, RootPort),
+            (13, le32, RootPathCost),
+            (14, u8, TopologyChange),
+            (15, u8, TopologyChangeDetected),
+            (16, le64, HelloTimer),
+            (17, le64, TcnTimer),
+            (18, le64, TopologyChangeTimer),
+            (19, le64, GcTimer),
+            (20, mac, GroupAddr),
+            (21, mark, FdbFlush),
+            (22, u8, MulticastRouter as BridgeMulticastRouterType),
+            (23, truth, MulticastSnooping),
+            (24, truth, MulticastQueryUseIfaddr),
+            (25, truth, MulticastQuerier),
+            (26, le32, MulticastHashElasticity),
+            (27, le32, MulticastHashMax),
+            (28, le32, MulticastLastMemberCount),
+            (29, le32, MulticastStartupQueryCount),
+            (30, le64, MulticastLastMemberInterval),
+            (31, le64, MulticastMembershipInterval),
+            (32, le64, MulticastQuerierInterval),
+            (33, le64, MulticastQueryInterval),
+            (34, le64, MulticastQueryResponseInterval),
+            (35, le64, MulticastStartupQueryInterval),
+            (36, truth, NfCallIpTables),
+            (37, truth, NfCallIp6Tables),
+            (38, truth, NfCallArpTables),
+            (39, le16, VlanDefaultPvid),
+            (41, u8, VlanStatsEnabled as OnOff),
+            (42, truth, MulticastStatsEnabled),
+            (43, u8, MulticastIgmpVersion),
+            (44, u8, MulticastMldVersion),
+            (45, u8, VlanStatsPerPort as OnOff),
+            (46, flag_pair, MultiBoolOpt by flags_of, pair_of),
+            (47, custom, MulticastQuerierState),
+            (48, le32, FdbNLearned),
+            (49, le32, FdbMaxLearned),
+            (50, le32, StpMode as BridgeStpMode),
+        }
+    };
+}
+
+impl RowFamily for InfoBridge {
+    type Context = ();
+
+    const FAMILY: Family = Family::Bridge;
+
+    ghost FAMILY = { family.Bridge };
+
+    ghost rows = { λ _ n. bridge_rows n };
+
+    ghost other = { λ nla. Other nla };
+
+    ghost canonical = { bridge_attribute };
+
+    ghost is_custom = { bridge_is_custom };
+
+    ghost owes = { λ _ n. bridge_owes n };
+
+    ghost keeps_other = { λ _. refl };
+
+    #[tactic(auto, using(crate::specs::Bridge::bridge_lookup))]
+    #[inline(always)]
+    fn shape(_ctx: (), kind: u16) -> Lookup {
+        typed_lookup(Family::Bridge, kind)
+    }
+
+    #[inline(always)]
+    fn store_decoded<P: Slot<InfoBridge>>(
+        slot: &mut P,
+        alloc: Global,
+        _ctx: (),
+        decoded: Decoded<'_>,
+    ) -> Result<(), AllocError> {
+        rows!(store_by_rows(slot, alloc, decoded))
+    }
+
+    #[inline(always)]
+    fn to_encodable(&self) -> Encodable<'_> {
+        rows!(encodable_by_rows self)
+    }
+}
+
+/// Makes flags and their mask from two numbers.
+fn flags_of(pair: (u32, u32)) -> (BridgeBooleanOptionFlags, BridgeBooleanOptionFlags)
+    ensures { result ≡ flags_under_mask pair }
+{
+    let (flags, mask) = pair;
+    (
+        BridgeBooleanOptionFlags::from_bits_retain(flags),
+        BridgeBooleanOptionFlags::from_bits_retain(mask),
+    )
+}
+
+/// The two numbers of flags and their mask.
+fn pair_of(under: (BridgeBooleanOptionFlags, BridgeBooleanOptionFlags)) -> (u32, u32)
+    ensures { result ≡ (under.0.0, under.1.0) }
+{
+    let (flags, mask) = under;
+    (flags.bits(), mask.bits())
+}
+
+/// The row of `IFLA_BR_ROOT_ID`. Wherever it is named, `T` is `()`.
+pub struct RootIdRow<T> {
+    of: PhantomData<T>,
+}
+
+impl<T> PayloadRow<InfoBridge> for RootIdRow<T> {
+    type Payload = BridgeId;
+
+    const NUMBER: u16 = 10;
+
+    ghost NUMBER = { 10 };
+
+    const NESTED: bool = false;
+
+    ghost NESTED = { false };
+
+    ghost label = { λ payload. RootId payload };
+
+    ghost is_held = { is_root_id };
+
+    ghost row_is = { λ _. has_payload };
+
+    ghost suits = { refl };
+
+    ghost written = { λ _. refl };
+
+    fn wrap(payload: BridgeId) -> InfoBridge {
+        InfoBridge::RootId(payload)
+    }
+
+    fn payload(value: &InfoBridge) -> Option<&BridgeId> {
+        match value {
+            InfoBridge::RootId(payload) => Some(payload),
+            _ => None,
+        }
+    }
+}
+
+/// The row of `IFLA_BR_BRIDGE_ID`. Wherever it is named, `T` is `()`.
+pub struct BridgeIdRow<T> {
+    of: PhantomData<T>,
+}
+
+impl<T> PayloadRow<InfoBridge> for BridgeIdRow<T> {
+    type Payload = BridgeId;
+
+    const NUMBER: u16 = 11;
+
+    ghost NUMBER = { 11 };
+
+    const NESTED: bool = false;
+
+    ghost NESTED = { false };
+
+    ghost label = { λ payload. BridgeId payload };
+
+    ghost is_held = { is_bridge_id };
+
+    ghost row_is = { λ _. has_payload };
+
+    ghost suits = { refl };
+
+    ghost written = { λ _. refl };
+
+    fn wrap(payload: BridgeId) -> InfoBridge {
+        InfoBridge::BridgeId(payload)
+    }
+
+    fn payload(value: &InfoBridge) -> Option<&BridgeId> {
+        match value {
+            InfoBridge::BridgeId(payload) => Some(payload),
+            _ => None,
+        }
+    }
+}
+
+/// The row of `IFLA_BR_MCAST_QUERIER_STATE`. Wherever it is named, `T` is `()`.
+pub struct MulticastQuerierStateRow<T> {
+    of: PhantomData<T>,
+}
+
+impl<T> PayloadRow<InfoBridge> for MulticastQuerierStateRow<T> {
+    type Payload = Nlas<BridgeQuerierState>;
+
+    const NUMBER: u16 = 47;
+
+    ghost NUMBER = { 47 };
+
+    const NESTED: bool = true;
+
+    ghost NESTED = { true };
+
+    ghost label = { λ payload. MulticastQuerierState payload };
+
+    ghost is_held = { is_multicast_querier_state };
+
+    ghost row_is = { λ _. has_payload };
+
+    ghost suits = { refl };
+
+    ghost written = { λ _. refl };
+
+    fn wrap(payload: Nlas<BridgeQuerierState>) -> InfoBridge {
+        InfoBridge::MulticastQuerierState(payload)
+    }
+
+    fn payload(value: &InfoBridge) -> Option<&Nlas<BridgeQuerierState>> {
+        match value {
+            InfoBridge::MulticastQuerierState(payload) => Some(payload),
+            _ => None,
+        }
+    }
+}
+
+impl TableFamily for InfoBridge {
+    type Custom = Both<(RootIdRow<()>, ()), (BridgeIdRow<()>, (MulticastQuerierStateRow<()>, ()))>;
+
+    const IS_SET: bool = false;
+
+    ghost IS_SET = { false };
+
+    ghost flat_elsewhere = { λ _ n. bridge_flat_elsewhere n };
+
+    ghost plain_elsewhere = { bridge_elsewhere };
+
+    ghost written = { λ _. refl };
+}
+
+impl Nla for InfoBridge {
+    ghost attribute = { bridge_attribute };
+
+    fn value_len(&self) -> usize {
+        <InfoBridge as TableFamily>::Custom::value_len(self)
+    }
+
+    fn kind(&self) -> u16 {
+        <InfoBridge as TableFamily>::Custom::kind(self)
+    }
+
+    #[tactic(auto, using(nla_frame::proofs::Emitting::whole))]
+    fn emit_value(&self, buffer: &mut [u8]) {
+        self.emit_payload(buffer);
+    }
+
+    fn emit_payload(&self, buffer: &mut [u8]) -> usize {
+        <InfoBridge as TableFamily>::Custom::emit(self, buffer)
+    }
+
+    fn fit_len(&self) -> Option<usize> {
+        <InfoBridge as TableFamily>::Custom::fit_len(self)
+    }
+}
+
+/// Reads the attribute. A payload of invalid length is rejected as `(Bridge, type, Length)`. A list
+/// is rejected with the first error in it: that of an attribute inside, or `(Frame, 0, Header)`.
+impl<'a> Parseable<NlaBuffer<'a>> for InfoBridge {
+    ghost meaning = { λ nla.
+        meaning_in family.Bridge (λ d. Other d) (λ n. row_of (bridge_rows n)) nla };
+
+    ghost needs_memory = { λ nla. memory_in (λ n. row_of (bridge_rows n)) nla };
+
+    fn parse(alloc: Global, buffer: &NlaBuffer<'a>) -> Result<InfoBridge, DecodeError> {
+        laws::borrowed(buffer);
+        <InfoBridge as LinkFamily>::read(alloc, buffer, (), &mut HeaderCount::new())
+    }
+}
+
+impl ExactEq for InfoBridge {
+    ghost use Rattle.std.specs.Cmp.{booleans_Decides};
+    ghost use Rattle.std.proofs.Common.{rules};
+    ghost use Rattle.std.specs.Cmp.Lexicographic.{pointwise_decides};
+    ghost use Rattle.std.proofs.lemmas.Bool.Decides.{Decides-eqb};
+    ghost use Rattle.nla_frame.specs.Derived.{derived_decides, no_field, one_field};
+    ghost use Rattle.nla_frame.specs.Pairs.{◌&◌};
+    ghost use Rattle.linkinfo_numbers.specs.contracts.bridge.BridgeStpStateExactEq.TheImpl.Laws.{
+      exact-law as stp_exact,
+    };
+    ghost use Rattle.linkinfo_numbers.specs.contracts.vlan.VlanProtocolExactEq.TheImpl.Laws.{
+      exact-law as protocol_exact,
+    };
+    ghost use Rattle.linkinfo_payloads.specs.contracts.records.BridgeIdExactEq.TheImpl.Laws.{
+      exact-law as bridge_id_exact,
+    };
+    ghost use Rattle.nla_frame.specs.contracts.exact_eq.ArrayU86ExactEq.TheImpl.Laws.{
+      exact-law as mac_exact,
+    };
+    ghost use Rattle.linkinfo_numbers.specs.contracts.bridge.BridgeMulticastRouterTypeExactEq.TheImpl.Laws.{
+      exact-law as router_exact,
+    };
+    ghost use Rattle.linkinfo_numbers.specs.contracts.bond.OnOffExactEq.TheImpl.Laws.{
+      exact-law as switch_exact,
+    };
+    ghost use Rattle.linkinfo_typed.specs.contracts.bridge_querier_state.BridgeQuerierStateExactEq.TheImpl.Laws.{
+      exact-law as bridge_querier_state_exact,
+    };
+    ghost use Rattle.linkinfo_numbers.specs.contracts.bridge.BridgeStpModeExactEq.TheImpl.Laws.{
+      exact-law as mode_exact,
+    };
+    ghost use Rattle.nla_frame.specs.contracts.default_nla.DefaultNlaExactEq.TheImpl.Laws.{
+      exact-law as kept_exact,
+    };
+    ghost use Rattle.linkinfo_typed.specs.contracts.bridge.InfoBridge.{enum};
+
+    ghost exact = { let number = one_field Decides-eqb in
+        let stp = one_field stp_exact in
+        let truth = one_field booleans_Decides in
+        let protocol = one_field protocol_exact in
+        let bridge_id = one_field bridge_id_exact in
+        let mac = one_field mac_exact in
+        let router = one_field router_exact in
+        let switch = one_field switch_exact in
+        let sets = one_field (λ a b. Prim.search rules) in
+        let bridge_querier_state = one_field (pointwise_decides bridge_querier_state_exact) in
+        let mode = one_field mode_exact in
+        let kept = one_field kept_exact in
+        derived_decides enum _
+        (number
+        & number
+        & number
+        & number
+        & stp
+        & number
+        & truth
+        & protocol
+        & number
+        & bridge_id
+        & bridge_id
+        & number
+        & number
+        & number
+        & number
+        & number
+        & number
+        & number
+        & number
+        & mac
+        & no_field
+        & router
+        & truth
+        & truth
+        & truth
+        & number
+        & number
+        & number
+        & number
+        & number
+        & number
+        & number
+        & number
+        & number
+        & number
+        & truth
+        & truth
+        & truth
+        & number
+        & switch
+        & truth
+        & number
+        & number
+        & switch
+        & sets
+        & bridge_querier_state
+        & number
+        & number
+        & mode
+        & kept
+        & tt) };
+}

@@ -1,0 +1,275 @@
+// @generated from crates/linkinfo_numbers/src/bridge.rt by rust/translate/run.
+
+// Written by tables/generate from tables/numbers/bridge.
+//! Bridges and their ports.
+
+use crate::layers::nla_frame::{DecodeError, ExactEq, Family};
+use crate::layers::numbers::by_values::{
+    number_of_value, value_of_number, value_of_word, write_word,
+};
+use crate::layers::numbers::flags::KeepsEveryBit;
+use bitflags::{Flag, Flags};
+use core::fmt;
+use core::str::FromStr;
+
+/// Whether a bridge runs the Spanning Tree Protocol: `IFLA_BR_STP_STATE`, a little-endian 32-bit
+/// number (include/uapi/linux/if_link.h).
+#[derive(Clone, Copy, Debug, PartialEq, Eq, Hash, PartialOrd, Ord)]
+pub enum BridgeStpState {
+    /// It does not (0).
+    Disabled,
+    /// The kernel does (1).
+    KernelStp,
+    /// A program does (2).
+    UserStp,
+    /// Any number without a name.
+    Other(u32),
+}
+
+macro_rules! stps {
+    ($body:ident $given:tt) => {
+        $body! { BridgeStpState $given;
+            (Disabled, 0),
+            (KernelStp, 1),
+            (UserStp, 2),
+        }
+    };
+}
+
+impl From<u32> for BridgeStpState {
+    fn from(number: u32) -> BridgeStpState {
+        stps!(value_of_number number)
+    }
+}
+
+impl From<BridgeStpState> for u32 {
+    fn from(stp: BridgeStpState) -> u32 {
+        stps!(number_of_value stp)
+    }
+}
+
+impl ExactEq for BridgeStpState {}
+
+/// Who runs the Spanning Tree Protocol of a bridge: `IFLA_BR_STP_MODE`, a little-endian 32-bit
+/// number (include/uapi/linux/if_link.h).
+#[derive(Clone, Copy, Debug, PartialEq, Eq, Hash, PartialOrd, Ord)]
+pub enum BridgeStpMode {
+    /// `BR_STP_MODE_AUTO`: a program if there is one, otherwise the kernel.
+    Auto,
+    /// `BR_STP_MODE_USER`: a program.
+    User,
+    /// `BR_STP_MODE_KERNEL`: the kernel.
+    Kernel,
+    /// Any number without a name.
+    Other(u32),
+}
+
+macro_rules! modes {
+    ($body:ident $given:tt) => {
+        $body! { BridgeStpMode $given;
+            (Auto, 0, "auto"),
+            (User, 1, "user"),
+            (Kernel, 2, "kernel"),
+        }
+    };
+}
+
+impl From<u32> for BridgeStpMode {
+    fn from(number: u32) -> BridgeStpMode {
+        modes!(value_of_number number)
+    }
+}
+
+impl From<BridgeStpMode> for u32 {
+    fn from(mode: BridgeStpMode) -> u32 {
+        modes!(number_of_value mode)
+    }
+}
+
+impl fmt::Display for BridgeStpMode {
+    fn fmt(&self, f: &mut fmt::Formatter<'_>) -> fmt::Result {
+        modes!(write_word(self, f))
+    }
+}
+
+/// Every text that `Display` does not write is rejected as `(Bridge, 0, Word)`.
+impl FromStr for BridgeStpMode {
+    type Err = DecodeError;
+
+    fn from_str(word: &str) -> Result<BridgeStpMode, DecodeError> {
+        modes!(value_of_word(word, Family::Bridge))
+    }
+}
+
+impl Default for BridgeStpMode {
+    fn default() -> BridgeStpMode {
+        BridgeStpMode::Auto
+    }
+}
+
+impl ExactEq for BridgeStpMode {}
+
+/// Whether multicast routers are behind a bridge or a port of it: `IFLA_BR_MCAST_ROUTER` and
+/// `IFLA_BRPORT_MULTICAST_ROUTER`, one byte (include/uapi/linux/if_bridge.h).
+#[derive(Clone, Copy, Debug, PartialEq, Eq, Hash, PartialOrd, Ord)]
+pub enum BridgeMulticastRouterType {
+    /// `MDB_RTR_TYPE_DISABLED`: none.
+    Disabled,
+    /// `MDB_RTR_TYPE_TEMP_QUERY`: those whose queries or messages are seen.
+    TempQuery,
+    /// `MDB_RTR_TYPE_PERM`: one for good.
+    Permanent,
+    /// `MDB_RTR_TYPE_TEMP`: one for a time.
+    Temp,
+    /// Any number without a name.
+    Other(u8),
+}
+
+macro_rules! routers {
+    ($body:ident $given:tt) => {
+        $body! { BridgeMulticastRouterType $given;
+            (Disabled, 0),
+            (TempQuery, 1),
+            (Permanent, 2),
+            (Temp, 3),
+        }
+    };
+}
+
+impl From<u8> for BridgeMulticastRouterType {
+    fn from(number: u8) -> BridgeMulticastRouterType {
+        routers!(value_of_number number)
+    }
+}
+
+impl From<BridgeMulticastRouterType> for u8 {
+    fn from(router: BridgeMulticastRouterType) -> u8 {
+        routers!(number_of_value router)
+    }
+}
+
+impl ExactEq for BridgeMulticastRouterType {}
+
+/// The state of a port by the Spanning Tree Protocol: `IFLA_BRPORT_STATE`, one byte
+/// (include/uapi/linux/if_bridge.h).
+#[derive(Clone, Copy, Debug, PartialEq, Eq, Hash, PartialOrd, Ord)]
+pub enum BridgePortState {
+    /// `BR_STATE_DISABLED`: it takes no part.
+    Disabled,
+    /// `BR_STATE_LISTENING`: it listens.
+    Listening,
+    /// `BR_STATE_LEARNING`: it learns addresses.
+    Learning,
+    /// `BR_STATE_FORWARDING`: it forwards frames.
+    Forwarding,
+    /// `BR_STATE_BLOCKING`: it forwards nothing.
+    Blocking,
+    /// Any number without a name.
+    Other(u8),
+}
+
+macro_rules! states {
+    ($body:ident $given:tt) => {
+        $body! { BridgePortState $given;
+            (Disabled, 0, "disabled"),
+            (Listening, 1, "listening"),
+            (Learning, 2, "learning"),
+            (Forwarding, 3, "forwarding"),
+            (Blocking, 4, "blocking"),
+        }
+    };
+}
+
+impl From<u8> for BridgePortState {
+    fn from(number: u8) -> BridgePortState {
+        states!(value_of_number number)
+    }
+}
+
+impl From<BridgePortState> for u8 {
+    fn from(state: BridgePortState) -> u8 {
+        states!(number_of_value state)
+    }
+}
+
+impl fmt::Display for BridgePortState {
+    fn fmt(&self, f: &mut fmt::Formatter<'_>) -> fmt::Result {
+        states!(write_word(self, f))
+    }
+}
+
+/// Every text that `Display` does not write is rejected as `(BridgePort, 0, Word)`.
+impl FromStr for BridgePortState {
+    type Err = DecodeError;
+
+    fn from_str(word: &str) -> Result<BridgePortState, DecodeError> {
+        states!(value_of_word(word, Family::BridgePort))
+    }
+}
+
+impl ExactEq for BridgePortState {}
+
+/// The options of a bridge: `optval` and `optmask` of `struct br_boolopt_multi`, little-endian
+/// 32-bit numbers (include/uapi/linux/if_bridge.h). Every 32-bit number is a valid set.
+#[derive(Clone, Copy, Debug, PartialEq, Eq, Hash, PartialOrd, Ord)]
+pub struct BridgeBooleanOptionFlags(u32);
+
+impl BridgeBooleanOptionFlags {
+    /// Addresses are not learned from link-local frames (0x1).
+    pub const NoLinkLocalLearn: BridgeBooleanOptionFlags = BridgeBooleanOptionFlags(0x1);
+
+    /// Multicast groups are tracked by VLAN (0x2).
+    pub const VlanMulticastSnooping: BridgeBooleanOptionFlags = BridgeBooleanOptionFlags(0x2);
+
+    /// Multiple spanning trees are enabled (0x4).
+    pub const MstEnable: BridgeBooleanOptionFlags = BridgeBooleanOptionFlags(0x4);
+
+    /// Groups that a device could not take over are told of (0x8).
+    pub const MdbOffloadFailNotif: BridgeBooleanOptionFlags = BridgeBooleanOptionFlags(0x8);
+
+    /// Local addresses are in VLAN 0 alone (0x10).
+    pub const FdbLocalVlan0: BridgeBooleanOptionFlags = BridgeBooleanOptionFlags(0x10);
+
+    const TABLE: &'static [Flag<BridgeBooleanOptionFlags>] = &[
+        Flag::new(
+            "NoLinkLocalLearn",
+            BridgeBooleanOptionFlags::NoLinkLocalLearn,
+        ),
+        Flag::new(
+            "VlanMulticastSnooping",
+            BridgeBooleanOptionFlags::VlanMulticastSnooping,
+        ),
+        Flag::new("MstEnable", BridgeBooleanOptionFlags::MstEnable),
+        Flag::new(
+            "MdbOffloadFailNotif",
+            BridgeBooleanOptionFlags::MdbOffloadFailNotif,
+        ),
+        Flag::new("FdbLocalVlan0", BridgeBooleanOptionFlags::FdbLocalVlan0),
+        Flag::new("", BridgeBooleanOptionFlags(u32::MAX)),
+    ];
+}
+
+impl Flags for BridgeBooleanOptionFlags {
+    type Bits = u32;
+
+    const FLAGS: &'static [Flag<BridgeBooleanOptionFlags>] = BridgeBooleanOptionFlags::TABLE;
+
+    fn bits(&self) -> u32 {
+        self.0
+    }
+
+    fn from_bits_retain(bits: u32) -> BridgeBooleanOptionFlags {
+        BridgeBooleanOptionFlags(bits)
+    }
+}
+
+impl KeepsEveryBit for BridgeBooleanOptionFlags {}
+
+/// The default is the empty set.
+impl Default for BridgeBooleanOptionFlags {
+    fn default() -> BridgeBooleanOptionFlags {
+        BridgeBooleanOptionFlags(0)
+    }
+}
+
+impl ExactEq for BridgeBooleanOptionFlags {}
