@@ -34,6 +34,14 @@
  * (MT-Safe in attributes(7)). A call takes up to 40 KiB of stack: in a signal
  * handler that is more than SIGSTKSZ.
  *
+ * Typed and opaque. All calls know the attributes of all families, bonds,
+ * bridges, VLANs and CAN devices among them: linkinfo_check rejects a VLAN ID
+ * of one byte. For who only passes link info on, the calls that end in _opaque
+ * keep attributes of bond, bridge, can, dsa, hsr, tun and vlan links, and of
+ * ports of bonds and bridges, verbatim: any payload is accepted, and compared
+ * as bytes. What is accepted without _opaque is accepted with it, and lists
+ * that are equivalent with it are so without it where both are accepted.
+ *
  * Which comparison. linkinfo_first_unmet is for a link and a request: does the
  * link that the kernel returned have each attribute of the request?
  * linkinfo_same is for two requests, or for two canonical encodings: are they
@@ -175,7 +183,9 @@ enum linkinfo_family {
   LINKINFO_FAMILY_BRIDGEQUERIERSTATE = 40,
   LINKINFO_FAMILY_CANTDC = 41,
   LINKINFO_FAMILY_CANCTRLMODEEXT = 42,
-  LINKINFO_FAMILY_CANPWM = 43
+  LINKINFO_FAMILY_CANPWM = 43,
+  LINKINFO_FAMILY_OVPN = 44,
+  LINKINFO_FAMILY_PPP = 45
   /* End: written by tables/generate. */
 };
 
@@ -246,6 +256,24 @@ enum linkinfo_port_kind {
   /* End: written by tables/generate. */
 };
 
+/* The kind of a list in data: list_kind of its value. It is the kind of the
+ * attributes in that list for linkinfo_values. Its numbers differ from those of
+ * enum linkinfo_kind and enum linkinfo_port_kind. */
+enum linkinfo_list_kind {
+  LINKINFO_LIST_KIND_NONE = 0, /* no list, or a list of attributes of the same
+                                  family, which have the kind of the data */
+  LINKINFO_LIST_KIND_V4 = 512, /* IPv4 addresses */
+  LINKINFO_LIST_KIND_V6 = 513, /* IPv6 addresses */
+  /* Begin: written by tables/generate from tables/families (lists). */
+  LINKINFO_LIST_KIND_VLANQOSMAPPING = 550,
+  LINKINFO_LIST_KIND_BONDADINFO = 551,
+  LINKINFO_LIST_KIND_BRIDGEQUERIERSTATE = 552,
+  LINKINFO_LIST_KIND_CANTDC = 553,
+  LINKINFO_LIST_KIND_CANCTRLMODEEXT = 554,
+  LINKINFO_LIST_KIND_CANPWM = 555
+  /* End: written by tables/generate. */
+};
+
 /* An error. With cause 0 there is none, and family and type are 0 too. */
 struct linkinfo_error {
   uint16_t family; /* enum linkinfo_family */
@@ -295,6 +323,7 @@ struct linkinfo_inner_error {
   size_t inner; /* the offset in the list of the innermost attribute that has
                    the error: in data, or in a nested list in data; there, of an
                    error of a header, the offset at which no header is accepted.
+                   Of an address of another length, that of its list.
                    In data of veth and vxcan, which is no list, the offset of
                    its payload. place where the attribute of the list has the
                    error itself, and 0 without an error */
@@ -314,6 +343,22 @@ struct linkinfo_inner_error {
  */
 LINKINFO_NODISCARD struct linkinfo_inner_error
 linkinfo_check_inner(const uint8_t *bytes, size_t length);
+
+/*
+ * linkinfo_check_inner_opaque - validates a list, with bonds, bridges and their
+ * like opaque
+ * @bytes: the list
+ * @length: its length in bytes
+ *
+ * As linkinfo_check_inner, but in data of bond, bridge, can, dsa, hsr, tun and
+ * vlan links, and of ports of bonds and bridges, headers alone are examined.
+ *
+ * Return: the first error in byte order, with both offsets, or none.
+ * Time: linear, as linkinfo_check_at.
+ * Threads: MT-Safe.
+ */
+LINKINFO_NODISCARD struct linkinfo_inner_error
+linkinfo_check_inner_opaque(const uint8_t *bytes, size_t length);
 
 /* Whether two lists are equivalent. */
 struct linkinfo_same_result {
@@ -342,6 +387,26 @@ LINKINFO_NODISCARD struct linkinfo_same_result
 linkinfo_same(const uint8_t *a, size_t a_length, const uint8_t *b,
               size_t b_length);
 
+/*
+ * linkinfo_same_opaque - compares two lists, with bonds, bridges and their like
+ * opaque
+ * @a: the first list
+ * @a_length: its length in bytes
+ * @b: the second list
+ * @b_length: its length in bytes
+ *
+ * As linkinfo_same, but attributes of bond, bridge, can, dsa, hsr, tun and vlan
+ * links, and of ports of bonds and bridges, are compared as bytes, with their
+ * flag bits.
+ *
+ * Return: whether they are equivalent, or the error of a list.
+ * Time: linear; each header is examined at most twice.
+ * Threads: MT-Safe.
+ */
+LINKINFO_NODISCARD struct linkinfo_same_result
+linkinfo_same_opaque(const uint8_t *a, size_t a_length, const uint8_t *b,
+                     size_t b_length);
+
 /* Whether two lists are equivalent, and the first pair of attributes in which
  * they differ. Where there is no such pair, its family, type and offsets are
  * 0. */
@@ -351,7 +416,7 @@ struct linkinfo_difference {
                                   one */
   uint16_t family;             /* enum linkinfo_family: LINKINFO_FAMILY_LINKINFO
                                   of attributes of the list, or that of
-                                  attributes in data */
+                                  attributes in data or in a nested list */
   uint16_t type;               /* of the first list's attribute, else of the
                                   second's, without its two flag bits */
   size_t first;                /* where is_in_first, the offset of the header of
@@ -373,9 +438,10 @@ struct linkinfo_difference {
  * @b_length: its length in bytes
  *
  * Attributes are compared in byte order, those of data and of nested lists one
- * by one. Data that is no list, as that of veth and vxcan with its peer, is
- * compared as a whole: the pair is that of the data. As linkinfo_same, it is
- * for two requests, or for two canonical encodings.
+ * by one. Lists of addresses, and data that is no list, as that of veth and
+ * vxcan with its peer, are compared as a whole: the pair is that of the list or
+ * of the data. As linkinfo_same, it is for two requests, or for two canonical
+ * encodings.
  *
  * Return: the first pair of attributes in which they differ, or the error of a
  * list.
@@ -386,6 +452,27 @@ LINKINFO_NODISCARD struct linkinfo_difference
 linkinfo_first_difference(const uint8_t *a, size_t a_length, const uint8_t *b,
                           size_t b_length);
 
+/*
+ * linkinfo_first_difference_opaque - finds where two lists differ first, with
+ * bonds, bridges and their like opaque
+ * @a: the first list
+ * @a_length: its length in bytes
+ * @b: the second list
+ * @b_length: its length in bytes
+ *
+ * As linkinfo_first_difference, but attributes of bond, bridge, can, dsa, hsr,
+ * tun and vlan links, and of ports of bonds and bridges, are compared as bytes,
+ * with their flag bits.
+ *
+ * Return: the first pair of attributes in which they differ, or the error of a
+ * list.
+ * Time: linear; each header is examined at most four times.
+ * Threads: MT-Safe.
+ */
+LINKINFO_NODISCARD struct linkinfo_difference
+linkinfo_first_difference_opaque(const uint8_t *a, size_t a_length,
+                                 const uint8_t *b, size_t b_length);
+
 /* Whether a link meets a request, and the first attribute of the request that
  * it does not meet. Where there is no such attribute, its family, type and
  * offsets are 0. */
@@ -395,7 +482,7 @@ struct linkinfo_unmet {
                                   one */
   uint16_t family;             /* enum linkinfo_family: LINKINFO_FAMILY_LINKINFO
                                   of an attribute of the list, or that of an
-                                  attribute in data */
+                                  attribute in data or in a nested list */
   uint16_t type;               /* without its two flag bits */
   size_t want;                 /* the offset of its header in the second list */
   size_t have;                 /* where is_present, the offset in the first list
@@ -406,7 +493,10 @@ struct linkinfo_unmet {
   bool is_present;             /* whether there is an attribute of that type: of
                                   an attribute of the list, in the first list,
                                   whatever its kind; of one in data, in the last
-                                  data of the first list */
+                                  data of the first list; of one in a nested
+                                  list, in the last such list of that data.
+                                  False of a mapping of priorities, of which the
+                                  list has others */
 };
 
 /*
@@ -425,20 +515,46 @@ struct linkinfo_unmet {
  * or is equivalent. Data, port data and statistics also require that the kind
  * or the port kind has the same name. Data that is a list is compared attribute
  * by attribute, so empty data of such a kind is met by any data of that kind,
- * and not without data. Other data, as that of veth and vxcan, and nested lists
- * are compared as a whole, with their order; the flag bits of known types in
- * nested lists do not matter, those of unknown types do.
+ * and not without data. So are nested lists of shape NESTED: a request for
+ * IFLA_CAN_TDC_TDCO alone is met by a link that has the limits too. Each
+ * mapping of priorities of a VLAN, which a request adds, is met by an equal
+ * one, in any order. Lists of shape SELF_LIST, V4_LIST and V6_LIST, and data
+ * that is no list, as that of veth and vxcan, are compared as a whole, with
+ * their order. The flag bits of known types in nested lists do not matter,
+ * those of unknown types do.
  *
  * Return: the first attribute of the request that is not met, or the error of a
  * list.
  * Time: linear; three passes over the lists for types below 64, which are all
  * of the kernel's, and three more for each further 64 up to the largest type of
- * the request.
+ * the request. Mappings of priorities take the product of the lengths of both
+ * lists: the longest that fit, 5,460 mappings each, take half a second.
  * Threads: MT-Safe.
  */
 LINKINFO_NODISCARD struct linkinfo_unmet
 linkinfo_first_unmet(const uint8_t *have, size_t have_length,
                      const uint8_t *want, size_t want_length);
+
+/*
+ * linkinfo_first_unmet_opaque - finds the first attribute of a request that a
+ * link does not have, with bonds, bridges and their like opaque
+ * @have: the link, as the kernel returned it
+ * @have_length: its length in bytes
+ * @want: the request
+ * @want_length: its length in bytes
+ *
+ * As linkinfo_first_unmet, but attributes of bond, bridge, can, dsa, hsr, tun
+ * and vlan links, and of ports of bonds and bridges, are compared as bytes,
+ * whatever their flag bits.
+ *
+ * Return: the first attribute of the request that is not met, or the error of a
+ * list.
+ * Time: linear, as linkinfo_first_unmet without mappings.
+ * Threads: MT-Safe.
+ */
+LINKINFO_NODISCARD struct linkinfo_unmet
+linkinfo_first_unmet_opaque(const uint8_t *have, size_t have_length,
+                            const uint8_t *want, size_t want_length);
 
 /* The outcome of linkinfo_canon. */
 enum linkinfo_canon_status {
@@ -477,6 +593,26 @@ struct linkinfo_canon_result {
 LINKINFO_NODISCARD struct linkinfo_canon_result
 linkinfo_canon(const uint8_t *LINKINFO_RESTRICT bytes, size_t length,
                uint8_t *LINKINFO_RESTRICT buffer, size_t buffer_length);
+
+/*
+ * linkinfo_canon_opaque - writes the canonical encoding of a list, with bonds,
+ * bridges and their like opaque
+ * @bytes: the list
+ * @length: its length in bytes
+ * @buffer: where the encoding is written; must not overlap the list
+ * @buffer_length: its length in bytes
+ *
+ * As linkinfo_canon, but attributes of bond, bridge, can, dsa, hsr, tun and
+ * vlan links, and of ports of bonds and bridges, are written as they are, with
+ * their flag bits. The padding after them is zeros.
+ *
+ * Return: the status, and the length of the encoding.
+ * Time: linear, as linkinfo_canon.
+ * Threads: MT-Safe.
+ */
+LINKINFO_NODISCARD struct linkinfo_canon_result
+linkinfo_canon_opaque(const uint8_t *LINKINFO_RESTRICT bytes, size_t length,
+                      uint8_t *LINKINFO_RESTRICT buffer, size_t buffer_length);
 
 /* The number of headers that were examined. */
 struct linkinfo_count_result {
@@ -583,17 +719,20 @@ enum linkinfo_shape {
   LINKINFO_SHAPE_EMPTY_OR_BYTE = 21, /* nothing or one byte */
   LINKINFO_SHAPE_SCRUB = 22,     /* a little-endian number of four bytes: 0 is
                                     no scrubbing */
-  LINKINFO_SHAPE_RAW = 23,       /* any bytes; not returned */
+  LINKINFO_SHAPE_RAW = 23,       /* any bytes */
   LINKINFO_SHAPE_SELF_LIST = 24, /* a list of attributes of the same family */
   LINKINFO_SHAPE_PEER = 25,      /* the peer of a veth, vxcan or netkit */
-  /* those of attributes that have types in the typed layer alone are not
-     returned yet */
   LINKINFO_SHAPE_NESTED = 26,    /* a list of attributes of another family */
-  LINKINFO_SHAPE_BRIDGE_ID = 27, /* the identifier of a bridge, 8 bytes */
-  LINKINFO_SHAPE_LE_PAIR16 = 28, /* two little-endian numbers of two bytes */
-  LINKINFO_SHAPE_LE32X8 = 29,    /* eight little-endian numbers of four */
+  LINKINFO_SHAPE_BRIDGE_ID = 27, /* the identifier of a bridge, 8 bytes: a
+                                    big-endian priority of two bytes, then a
+                                    hardware address (struct ifla_bridge_id) */
+  LINKINFO_SHAPE_LE_PAIR16 = 28, /* two little-endian numbers of two bytes
+                                    (struct can_berr_counter) */
+  LINKINFO_SHAPE_LE32X8 = 29,    /* eight little-endian numbers of four bytes
+                                    (struct can_bittiming) */
   LINKINFO_SHAPE_CAN_BIT_TIMING_CONST = 30, /* a name of 16 bytes, then eight
-                                               such numbers */
+                                               such numbers (struct
+                                               can_bittiming_const) */
   LINKINFO_SHAPE_LE16S = 31,     /* any number of little-endian numbers of two
                                     bytes */
   LINKINFO_SHAPE_LE32S = 32,     /* of four */
@@ -618,9 +757,10 @@ struct linkinfo_attribute {
 /*
  * linkinfo_attributes - writes the attributes of data, with their numbers
  * @bytes: data or port data: the payload of an item of type IFLA_INFO_DATA or
- * IFLA_INFO_SLAVE_DATA
+ * IFLA_INFO_SLAVE_DATA; or a nested list, the payload of an attribute in data
  * @length: its length in bytes
- * @kind: that item's kind for data, or its port_kind for port data
+ * @kind: that item's kind for data, or its port_kind for port data; for a
+ * nested list the list_kind of its value, or if that is 0, the kind of the data
  * @attributes: an array, into which the attributes are written in order
  * @attributes_length: the number of its items; length / 4 is enough
  *
@@ -629,11 +769,10 @@ struct linkinfo_attribute {
  * Payloads are not validated here: that is for linkinfo_check of the list.
  *
  * Where data of the kind is opaque bytes, there are none, and place is 0.
- * Attributes of bond, bridge, vlan, tun, hsr, can, dsa, wireguard and pfcp
- * data, and of ports of bonds, bridges and teams, have no known shape: a VLAN
- * identifier is two bytes that the caller reads. The payload of shape SELF_LIST
- * is such data again. What follows the first attribute of veth and vxcan data
- * is written here too, though parsing ignores it.
+ * Attributes of wireguard and pfcp data, and of ports of teams, have no known
+ * shape. The payload of shape SELF_LIST is such data again. What follows the
+ * first attribute of veth and vxcan data is written here too, though parsing
+ * ignores it.
  *
  * Return: the number of all attributes, whatever room the array has, and the
  * error that ends them.
@@ -666,10 +805,14 @@ enum linkinfo_value_type {
   LINKINFO_VALUE_MAC = 8,     /* octets, 6: MAC */
   LINKINFO_VALUE_PAIR = 9,    /* first and second: BE_PAIR, and FLAG_PAIR, flags
                                  and mask */
-  LINKINFO_VALUE_LIST = 10,   /* length: SELF_LIST, the payload, whose
+  LINKINFO_VALUE_LIST = 10,   /* length and list_kind: SELF_LIST, NESTED,
+                                 V4_LIST and V6_LIST, the payload, whose
                                  attributes are those of another call; they may
                                  have an error */
-  LINKINFO_VALUE_BYTES = 11   /* length: PEER, the payload */
+  LINKINFO_VALUE_BYTES = 11   /* length: RAW, PEER, BRIDGE_ID, LE_PAIR16,
+                                 LE32X8, CAN_BIT_TIMING_CONST, LE16S and LE32S,
+                                 the payload, to be copied into the kernel's
+                                 struct or an array */
 };
 
 /* What a payload means. Members that do not have the value are 0 or false. */
@@ -683,6 +826,7 @@ struct linkinfo_value {
   uint32_t first;      /* of a pair; the flags */
   uint32_t second;     /* of a pair; the mask of the flags */
   uint32_t value_type; /* enum linkinfo_value_type */
+  uint16_t list_kind;  /* enum linkinfo_list_kind, of a list */
   bool truth;
 };
 
@@ -698,15 +842,22 @@ struct linkinfo_valued_attribute {
 
 /*
  * linkinfo_values - writes the attributes of data, with their values
- * @bytes: data or port data, as for linkinfo_attributes
+ * @bytes: data, port data or a nested list, as for linkinfo_attributes
  * @length: its length in bytes
- * @kind: the kind or the port kind, as for linkinfo_attributes
+ * @kind: the kind, the port kind or the list_kind, as for linkinfo_attributes
  * @values: an array, into which the attributes are written in order
  * @values_length: the number of its items; length / 4 is enough
  *
  * Writes the attributes that linkinfo_attributes writes, each with what its
  * payload means: numbers, truth values, flags, texts, addresses and pairs. A
  * payload that linkinfo_check rejects for its own length or text has no value.
+ *
+ * The values of a nested list, as of the mappings of priorities of a VLAN:
+ *
+ *   if (value.value_type == LINKINFO_VALUE_LIST)
+ *     found = linkinfo_values(payload, value.length,
+ *                             value.list_kind ? value.list_kind : kind,
+ *                             inner, inner_length);
  *
  * Return: the result of linkinfo_attributes.
  * Time: linear.
@@ -823,9 +974,9 @@ size_t linkinfo_error_message(struct linkinfo_error error, size_t offset,
  * bytes are enough
  * @buffer_length: its length in bytes
  *
- * The name is as "IFLA_VXLAN_ID". Attributes of opaque families, as of bonds
- * and bridges, have no name. That of a vrf's port, IFLA_VRF_PORT_TABLE, has the
- * family and the type of IFLA_VRF_TABLE, and that name.
+ * The name is as "IFLA_VXLAN_ID". Attributes without a shape have no name. That
+ * of a vrf's port, IFLA_VRF_PORT_TABLE, has the family and the type of
+ * IFLA_VRF_TABLE, and that name.
  *
  * Return: the length of the whole name without the NUL, as snprintf; 0 for a
  * type that has no name, and for a number that is no family.
@@ -834,6 +985,35 @@ size_t linkinfo_error_message(struct linkinfo_error error, size_t offset,
  */
 size_t linkinfo_attribute_name(uint16_t family, uint16_t type, char *buffer,
                                size_t buffer_length);
+
+/* How the kernel uses a type of attributes. */
+enum linkinfo_attribute_use {
+  LINKINFO_USE_NONE = 0,           /* the type has no name */
+  LINKINFO_USE_READ_WRITE = 1,     /* a request sets it, and a reply has it */
+  LINKINFO_USE_READ_ONLY = 2,      /* a reply has it; a request with it is
+                                      rejected, or it is ignored there */
+  LINKINFO_USE_COMMAND = 3,        /* a request with it makes the kernel do
+                                      something, and no reply has it */
+  LINKINFO_USE_NEVER_RETURNED = 4  /* a request sets it, and no reply has it */
+};
+
+/*
+ * linkinfo_attribute_use - how the kernel uses an attribute's type
+ * @family: enum linkinfo_family
+ * @type: the type without its two flag bits
+ *
+ * For a daemon that mends a link: it leaves out what is read only, and repeats
+ * no command. IFLA_BRPORT_NO is read only, IFLA_BR_FDB_FLUSH is a command, and
+ * IFLA_PPP_DEV_FD is never returned. The kernel is Linux 7.3; older ones and
+ * some kinds of links return less, and take less in requests.
+ *
+ * Return: enum linkinfo_attribute_use; LINKINFO_USE_NONE for a type that has no
+ * name, and for a number that is no family.
+ * Time: constant.
+ * Threads: MT-Safe.
+ */
+LINKINFO_NODISCARD uint16_t
+linkinfo_attribute_use(uint16_t family, uint16_t type);
 
 /*
  * linkinfo_kind_of_name - the kind of a name

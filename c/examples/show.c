@@ -76,25 +76,31 @@ static void show_value(const uint8_t *payload, const struct linkinfo_valued_attr
   }
 }
 
+/* The attributes in data of a kind, or in a nested list, and in the lists in them. */
+static void show_attributes(const uint8_t *list, size_t begin, size_t length, uint16_t kind,
+                            int indent) {
+  struct linkinfo_valued_attribute *attributes = malloc((length / 4 + 1) * sizeof *attributes);
+  if (!attributes) return;
+  struct linkinfo_list_result found =
+      linkinfo_values(list + begin, length, kind, attributes, length / 4);
+  for (size_t i = 0; i < found.count; i++) {
+    const struct linkinfo_value *value = &attributes[i].value;
+    size_t place = begin + attributes[i].place;
+    printf("%*s%zu: type %u", indent, "", place, type_of(attributes[i].raw_type));
+    show_value(list + place + NLA_HDRLEN, &attributes[i]);
+    if (value->value_type == LINKINFO_VALUE_LIST)
+      show_attributes(list, place + NLA_HDRLEN, value->length,
+                      value->list_kind ? value->list_kind : kind, indent + 2);
+  }
+  free(attributes);
+}
+
 /* The attributes in data or port data. */
 static void show_data(const uint8_t *list, const struct linkinfo_item *item) {
   unsigned type = type_of(item->raw_type);
-  struct linkinfo_valued_attribute *attributes =
-      malloc((item->length / 4 + 1) * sizeof *attributes);
-  if (!attributes || (type != IFLA_INFO_DATA && type != IFLA_INFO_SLAVE_DATA)) {
-    free(attributes);
-    return;
-  }
-  size_t begin = item->place + NLA_HDRLEN;
-  uint16_t kind = type == IFLA_INFO_DATA ? item->kind : item->port_kind;
-  struct linkinfo_list_result found =
-      linkinfo_values(list + begin, item->length, kind, attributes, item->length / 4);
-  for (size_t i = 0; i < found.count; i++) {
-    size_t place = begin + attributes[i].place;
-    printf("  %zu: type %u", place, type_of(attributes[i].raw_type));
-    show_value(list + place + NLA_HDRLEN, &attributes[i]);
-  }
-  free(attributes);
+  if (type != IFLA_INFO_DATA && type != IFLA_INFO_SLAVE_DATA) return;
+  show_attributes(list, item->place + NLA_HDRLEN, item->length,
+                  type == IFLA_INFO_DATA ? item->kind : item->port_kind, 2);
 }
 
 /* Whether the link has all that is wanted; prints the first attribute that it has not. */

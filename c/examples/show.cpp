@@ -77,23 +77,32 @@ static std::string value_text(const linkinfo_valued_attribute &attribute,
   return octets;
 }
 
+// The attributes in data of a kind, or in a nested list, and in the lists in them.
+static void show_attributes(const bytes &list, size_t begin, size_t length, uint16_t kind,
+                            int indent) {
+  std::vector<linkinfo_valued_attribute> attributes(length / 4);
+  attributes.resize(linkinfo_values(list.data() + begin, length, kind, attributes.data(),
+                                    attributes.size())
+                        .count);
+  for (const auto &attribute : attributes) {
+    const linkinfo_value &value = attribute.value;
+    size_t place = begin + attribute.place;
+    std::string_view payload(reinterpret_cast<const char *>(&list[place]) + NLA_HDRLEN,
+                             attribute.length);
+    std::printf("%*s%zu: type %u%s\n", indent, "", place, type_of(attribute.raw_type),
+                value_text(attribute, payload).c_str());
+    if (value.value_type == LINKINFO_VALUE_LIST)
+      show_attributes(list, place + NLA_HDRLEN, value.length,
+                      value.list_kind != 0 ? value.list_kind : kind, indent + 2);
+  }
+}
+
 // The attributes in data or port data.
 static void show_data(const bytes &list, const linkinfo_item &item) {
   bool is_data = type_of(item.raw_type) == IFLA_INFO_DATA;
   if (!is_data && type_of(item.raw_type) != IFLA_INFO_SLAVE_DATA) return;
-  size_t begin = item.place + NLA_HDRLEN;
-  std::vector<linkinfo_valued_attribute> attributes(item.length / 4);
-  attributes.resize(linkinfo_values(list.data() + begin, item.length,
-                                    is_data ? item.kind : item.port_kind, attributes.data(),
-                                    attributes.size())
-                        .count);
-  for (const auto &attribute : attributes) {
-    size_t place = begin + attribute.place;
-    std::string_view payload(reinterpret_cast<const char *>(&list[place]) + NLA_HDRLEN,
-                             attribute.length);
-    std::printf("  %zu: type %u%s\n", place, type_of(attribute.raw_type),
-                value_text(attribute, payload).c_str());
-  }
+  show_attributes(list, item.place + NLA_HDRLEN, item.length,
+                  is_data ? item.kind : item.port_kind, 2);
 }
 
 static void show(const bytes &list) {

@@ -60,19 +60,23 @@ func kind(item C.struct_linkinfo_item) string {
 	return " of " + name
 }
 
-// attributes are those in data or port data.
-func attributes(payload []byte, item C.struct_linkinfo_item) []C.struct_linkinfo_valued_attribute {
+// attributes are those in data of a kind, or in a nested list.
+func attributes(payload []byte, kind C.uint16_t) []C.struct_linkinfo_valued_attribute {
 	values := make([]C.struct_linkinfo_valued_attribute, len(payload)/4+1)
-	kind := C.uint16_t(0)
-	switch item.raw_type & typeMask {
-	case C.IFLA_INFO_DATA:
-		kind = item.kind
-	case C.IFLA_INFO_SLAVE_DATA:
-		kind = item.port_kind
-	}
 	found := C.linkinfo_values(pointer(payload), C.size_t(len(payload)), kind, &values[0],
 		C.size_t(len(values)))
 	return values[:found.count]
+}
+
+// dataKind is the kind of data, or the port kind of port data.
+func dataKind(item C.struct_linkinfo_item) C.uint16_t {
+	switch item.raw_type & typeMask {
+	case C.IFLA_INFO_DATA:
+		return item.kind
+	case C.IFLA_INFO_SLAVE_DATA:
+		return item.port_kind
+	}
+	return 0
 }
 
 // valueText is a value as the shape of its attribute means it.
@@ -112,17 +116,30 @@ func isRejected(whose string, list []byte) bool {
 	return true
 }
 
+// showAttributes prints the attributes in data of a kind, or in a nested list, and in the lists in
+// them. The payload is at the offset begin of the whole list.
+func showAttributes(payload []byte, kind C.uint16_t, begin C.size_t, indent string) {
+	for _, attribute := range attributes(payload, kind) {
+		place := attribute.place + C.NLA_HDRLEN
+		inside := payload[place:][:attribute.length]
+		fmt.Printf("%s%d: type %d%s\n", indent, begin+attribute.place,
+			attribute.raw_type&typeMask, valueText(attribute, inside))
+		if attribute.value.value_type == C.LINKINFO_VALUE_LIST {
+			listKind := attribute.value.list_kind
+			if listKind == C.LINKINFO_LIST_KIND_NONE {
+				listKind = kind
+			}
+			showAttributes(inside, listKind, begin+place, indent+"  ")
+		}
+	}
+}
+
 func show(list []byte) {
 	for _, item := range items(list) {
 		fmt.Printf("%d: type %d, %d bytes%s\n", item.place, item.raw_type&typeMask, item.length,
 			kind(item))
 		begin := item.place + C.NLA_HDRLEN
-		payload := list[begin : begin+item.length]
-		for _, attribute := range attributes(payload, item) {
-			value := valueText(attribute, payload[attribute.place+C.NLA_HDRLEN:][:attribute.length])
-			place := begin + attribute.place
-			fmt.Printf("  %d: type %d%s\n", place, attribute.raw_type&typeMask, value)
-		}
+		showAttributes(list[begin:begin+item.length], dataKind(item), begin, "  ")
 	}
 }
 

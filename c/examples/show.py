@@ -16,6 +16,8 @@ from ctypes import c_bool, c_char_p, c_int64, c_size_t, c_uint8, c_uint16, c_uin
 # linux/if_link.h and linux/netlink.h
 IFLA_INFO_DATA, IFLA_INFO_XSTATS, IFLA_INFO_SLAVE_DATA = 2, 3, 5
 NLA_TYPE_MASK, NLA_HDRLEN = 0x3FFF, 4
+# LINKINFO_VALUE_LIST
+VALUE_LIST = 10
 
 library = ctypes.CDLL(os.environ.get("LINKINFO_LIBRARY", "liblinkinfo.so.0"))
 
@@ -65,6 +67,7 @@ class Value(Structure):
         ("first", c_uint32),
         ("second", c_uint32),
         ("value_type", c_uint32),
+        ("list_kind", c_uint16),
         ("truth", c_bool),
     ]
 
@@ -104,17 +107,28 @@ def items_of(given):
     return items[: found.count]
 
 
-def attributes_in(given, item):
-    """The attributes in data or port data, with their payloads."""
-    kinds = {IFLA_INFO_DATA: item.kind, IFLA_INFO_SLAVE_DATA: item.port_kind}
-    kind = kinds.get(item.raw_type & NLA_TYPE_MASK, 0)
-    begin = item.place + NLA_HDRLEN
-    payload = given[begin : begin + item.length]
+def show_attributes(payload, kind, begin, indent):
+    """The attributes in data of a kind, or in a nested list, and in the lists in them. The payload
+    is at the offset `begin` of the whole list."""
     attributes = (Attribute * (len(payload) // 4))()
     found = library.linkinfo_values(payload, len(payload), kind, attributes, len(attributes))
     for attribute in attributes[: found.count]:
-        begin = attribute.place + NLA_HDRLEN
-        yield attribute, payload[begin : begin + attribute.length]
+        place = attribute.place + NLA_HDRLEN
+        inside = payload[place : place + attribute.length]
+        number = attribute.raw_type & NLA_TYPE_MASK
+        at = f"{' ' * indent}{begin + attribute.place}"
+        print(f"{at}: type {number}{value_of(attribute, inside)}")
+        if attribute.value.value_type == VALUE_LIST:
+            list_kind = attribute.value.list_kind or kind
+            show_attributes(inside, list_kind, begin + place, indent + 2)
+
+
+def show_data(given, item):
+    """The attributes in data or port data."""
+    kinds = {IFLA_INFO_DATA: item.kind, IFLA_INFO_SLAVE_DATA: item.port_kind}
+    kind = kinds.get(item.raw_type & NLA_TYPE_MASK, 0)
+    begin = item.place + NLA_HDRLEN
+    show_attributes(given[begin : begin + item.length], kind, begin, 2)
 
 
 def value_of(attribute, payload):
@@ -175,10 +189,7 @@ def main(given, wanted=None):
     for item in items_of(given):
         kind = item.raw_type & NLA_TYPE_MASK
         print(f"{item.place}: type {kind}, {item.length} bytes{kind_of(item)}")
-        for attribute, payload in attributes_in(given, item):
-            place = item.place + NLA_HDRLEN + attribute.place
-            value = value_of(attribute, payload)
-            print(f"  {place}: type {attribute.raw_type & NLA_TYPE_MASK}{value}")
+        show_data(given, item)
     return 0 if wanted is None or is_as_wanted(given, wanted) else 1
 
 

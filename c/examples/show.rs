@@ -13,6 +13,8 @@ mod linkinfo {
     const IFLA_INFO_SLAVE_DATA: u16 = 5;
     pub const NLA_TYPE_MASK: u16 = 0x3fff;
     pub const NLA_HDRLEN: usize = 4;
+    // enum linkinfo_value_type
+    pub const VALUE_LIST: u32 = 10;
 
     #[repr(C)]
     #[derive(Clone, Copy)]
@@ -60,6 +62,7 @@ mod linkinfo {
         pub first: u32,
         pub second: u32,
         pub value_type: u32,
+        pub list_kind: u16,
         pub truth: bool,
     }
 
@@ -132,14 +135,17 @@ mod linkinfo {
         &list[item.place + NLA_HDRLEN..][..item.length]
     }
 
-    /// The attributes in data or port data of a list.
-    pub fn attributes(list: &[u8], item: &Item) -> Vec<Attribute> {
-        let payload = payload(list, item);
-        let kind = match item.raw_type & NLA_TYPE_MASK {
+    /// The kind of data, or the port kind of port data.
+    pub fn data_kind(item: &Item) -> u16 {
+        match item.raw_type & NLA_TYPE_MASK {
             IFLA_INFO_DATA => item.kind,
             IFLA_INFO_SLAVE_DATA => item.port_kind,
             _ => 0,
-        };
+        }
+    }
+
+    /// The attributes in data of a kind, or in a nested list.
+    pub fn attributes(payload: &[u8], kind: u16) -> Vec<Attribute> {
         let mut attributes = vec![Attribute::default(); payload.len() / 4];
         let (pointer, length) = (attributes.as_mut_ptr(), attributes.len());
         let found =
@@ -208,6 +214,25 @@ fn value_text(attribute: &linkinfo::Attribute, payload: &[u8]) -> String {
     }
 }
 
+/// The attributes in data of a kind, or in a nested list, and in the lists in them. The payload is
+/// at the offset `begin` of the whole list.
+fn show_attributes(payload: &[u8], kind: u16, begin: usize, indent: usize) {
+    for attribute in linkinfo::attributes(payload, kind) {
+        let place = attribute.place + linkinfo::NLA_HDRLEN;
+        let inside = &payload[place..][..attribute.length];
+        let value = value_text(&attribute, inside);
+        let attribute_type = attribute.raw_type & linkinfo::NLA_TYPE_MASK;
+        println!("{:indent$}{}: type {attribute_type}{value}", "", begin + attribute.place);
+        if attribute.value.value_type == linkinfo::VALUE_LIST {
+            let list_kind = match attribute.value.list_kind {
+                0 => kind,
+                list_kind => list_kind,
+            };
+            show_attributes(inside, list_kind, begin + place, indent + 2);
+        }
+    }
+}
+
 fn show(list: &[u8]) {
     for item in linkinfo::items(list) {
         let kind = linkinfo::kind_of(&item);
@@ -215,12 +240,8 @@ fn show(list: &[u8]) {
         let item_type = item.raw_type & linkinfo::NLA_TYPE_MASK;
         println!("{}: type {item_type}, {} bytes{of}{kind}", item.place, item.length);
         let data = linkinfo::payload(list, &item);
-        for attribute in linkinfo::attributes(list, &item) {
-            let begin = attribute.place + linkinfo::NLA_HDRLEN;
-            let value = value_text(&attribute, &data[begin..][..attribute.length]);
-            let attribute_type = attribute.raw_type & linkinfo::NLA_TYPE_MASK;
-            println!("  {}: type {attribute_type}{value}", item.place + begin);
-        }
+        let begin = item.place + linkinfo::NLA_HDRLEN;
+        show_attributes(data, linkinfo::data_kind(&item), begin, 2);
     }
 }
 

@@ -79,7 +79,8 @@ _Static_assert(offsetof(struct linkinfo_value, octets) == 24, "value.octets");
 _Static_assert(offsetof(struct linkinfo_value, first) == 40, "value.first");
 _Static_assert(offsetof(struct linkinfo_value, second) == 44, "value.second");
 _Static_assert(offsetof(struct linkinfo_value, value_type) == 48, "value.value_type");
-_Static_assert(offsetof(struct linkinfo_value, truth) == 52, "value.truth");
+_Static_assert(offsetof(struct linkinfo_value, list_kind) == 52, "value.list_kind");
+_Static_assert(offsetof(struct linkinfo_value, truth) == 54, "value.truth");
 _Static_assert(sizeof(struct linkinfo_valued_attribute) == 80, "valued attribute");
 _Static_assert(offsetof(struct linkinfo_valued_attribute, length) == 8, "valued.length");
 _Static_assert(offsetof(struct linkinfo_valued_attribute, value) == 16, "valued.value");
@@ -157,6 +158,16 @@ static void no_bytes(void) {
   struct linkinfo_list_result found = linkinfo_items(NULL, 0, NULL, 0);
   CHECK(is_none(found.error) && found.count == 0 && found.place == 0);
   struct linkinfo_canon_result canon = linkinfo_canon(NULL, 0, NULL, 0);
+  CHECK(is_none(canon.error) && canon.status == LINKINFO_CANON_WRITTEN && canon.length == 0);
+  inner = linkinfo_check_inner_opaque(NULL, 0);
+  CHECK(is_none(inner.error) && inner.place == 0 && inner.inner == 0);
+  same = linkinfo_same_opaque(NULL, 0, NULL, 0);
+  CHECK(is_none(same.error) && same.rejected == 0 && same.same);
+  difference = linkinfo_first_difference_opaque(NULL, 0, NULL, 0);
+  CHECK(is_none(difference.error) && difference.same && no_pair(&difference));
+  unmet = linkinfo_first_unmet_opaque(NULL, 0, NULL, 0);
+  CHECK(is_none(unmet.error) && unmet.met && no_attribute(&unmet));
+  canon = linkinfo_canon_opaque(NULL, 0, NULL, 0);
   CHECK(is_none(canon.error) && canon.status == LINKINFO_CANON_WRITTEN && canon.length == 0);
   CHECK(linkinfo_kind_of_name(NULL, 0) == LINKINFO_KIND_OTHER &&
         linkinfo_port_kind_of_name(NULL, 0) == LINKINFO_PORT_KIND_OTHER);
@@ -301,6 +312,11 @@ static void values_of(const uint8_t *bytes, size_t length, uint16_t kind) {
     for (size_t i = 0; i < room && i < found.count; i++) {
       struct linkinfo_value wanted =
           value_by_rules(all[i].shape, bytes + all[i].place + 4, all[i].length);
+      if (all[i].shape == LINKINFO_SHAPE_NESTED) {
+        /* tests/rows.c has that of each type */
+        wanted.list_kind = values[i].value.list_kind;
+        CHECK(wanted.list_kind > LINKINFO_LIST_KIND_V6);
+      }
       CHECK(values[i].place == all[i].place && values[i].length == all[i].length);
       CHECK(values[i].raw_type == all[i].raw_type && values[i].shape == all[i].shape);
       CHECK(equal_values(&values[i].value, &wanted));
@@ -312,8 +328,33 @@ static void values_of(const uint8_t *bytes, size_t length, uint16_t kind) {
 
 /* The last numbers of families, kinds and port kinds. */
 /* Begin: written by tables/generate from tables/kinds. */
-enum { LAST_FAMILY = 43, LAST_KIND = 47, LAST_PORT_KIND = 260 };
+enum { LAST_FAMILY = 45, LAST_KIND = 47, LAST_PORT_KIND = 260 };
 /* End: written by tables/generate. */
+
+/* The code of lists of the last family. */
+enum { LAST_LIST_KIND = LINKINFO_LIST_KIND_V4 + LAST_FAMILY };
+
+/* The attributes of the nested lists in a kernel's data: each has a shape and a value, and no list
+ * in it. */
+static void lists_of(const uint8_t *bytes, size_t length, uint16_t kind) {
+  static struct linkinfo_valued_attribute all[MOST_BYTES / 4 + 1], inner[MOST_BYTES / 4 + 1];
+  struct linkinfo_list_result found = linkinfo_values(bytes, length, kind, all, length / 4);
+  for (size_t i = 0; i < found.count; i++) {
+    uint16_t list_kind = all[i].value.list_kind;
+    if (list_kind == 0) continue;
+    const uint8_t *payload = bytes + all[i].place + 4;
+    struct linkinfo_list_result inside =
+        linkinfo_values(payload, all[i].value.length, list_kind, inner, MOST_BYTES / 4);
+    CHECK(is_none(inside.error) && inside.place == all[i].value.length);
+    CHECK(attributes_of(payload, all[i].value.length, list_kind) == inside.count);
+    for (size_t j = 0; j < inside.count; j++) {
+      CHECK(inner[j].shape != 0 && inner[j].value.value_type != LINKINFO_VALUE_NONE);
+      CHECK(inner[j].value.list_kind == 0);
+      CHECK(list_kind != LINKINFO_LIST_KIND_V4 || inner[j].value.value_type == LINKINFO_VALUE_IPV4);
+      CHECK(list_kind != LINKINFO_LIST_KIND_V6 || inner[j].value.value_type == LINKINFO_VALUE_IPV6);
+    }
+  }
+}
 
 /* The attributes of data, of its kind and of every other kind. */
 static void inside(const uint8_t *bytes, size_t length) {
@@ -325,11 +366,15 @@ static void inside(const uint8_t *bytes, size_t length) {
       CHECK(attributes_of(payload, items[i].length, items[i].kind) > 0);
     if ((items[i].raw_type & 0x3fff) == 5)
       CHECK(attributes_of(payload, items[i].length, items[i].port_kind) > 0);
-    for (uint16_t kind = 0; kind < LAST_PORT_KIND + 2;
-         kind = kind == LAST_KIND + 3 ? 255 : kind + 1) {
+    for (uint16_t kind = 0; kind < LAST_LIST_KIND + 2;
+         kind = kind == LAST_KIND + 3        ? 255
+                : kind == LAST_PORT_KIND + 2 ? LINKINFO_LIST_KIND_V4 - 1
+                                             : kind + 1) {
       attributes_of(payload, items[i].length, kind);
       values_of(payload, items[i].length, kind);
     }
+    lists_of(payload, items[i].length,
+             (items[i].raw_type & 0x3fff) == 2 ? items[i].kind : items[i].port_kind);
   }
 }
 
@@ -377,6 +422,31 @@ static void placed(const uint8_t *bytes, size_t length) {
   CHECK(at.place == longest);
 }
 
+/* With bonds, bridges and their like opaque, what is accepted without is accepted, and the error of
+ * a list is no earlier one. */
+static void opaque(const uint8_t *bytes, size_t length, struct linkinfo_error error) {
+  struct linkinfo_inner_error found = linkinfo_check_inner_opaque(bytes, length);
+  CHECK(is_returned(found.error.cause) && found.inner >= found.place && found.inner <= length);
+  CHECK(!is_none(error) || is_none(found.error));
+  CHECK(is_none(found.error) || found.place >= linkinfo_check_at(bytes, length).place);
+  struct linkinfo_same_result same = linkinfo_same_opaque(bytes, length, bytes, length);
+  CHECK(equal(same.error, found.error) && same.same == is_none(found.error));
+  struct linkinfo_unmet unmet = linkinfo_first_unmet_opaque(bytes, length, bytes, length);
+  CHECK(equal(unmet.error, found.error) && unmet.met == is_none(found.error));
+  struct linkinfo_difference differs = linkinfo_first_difference_opaque(NULL, 0, bytes, length);
+  CHECK(equal(differs.error, found.error) && differs.same == (length == 0));
+  static uint8_t verbatim[ROOM], first[ROOM], second[ROOM];
+  struct linkinfo_canon_result canon =
+      linkinfo_canon_opaque(bytes, length, verbatim, sizeof verbatim);
+  CHECK(equal(canon.error, found.error) &&
+        canon.status == (is_none(found.error) ? LINKINFO_CANON_WRITTEN : LINKINFO_CANON_REFUSED));
+  if (!is_none(error)) return;
+  /* the typed canonical encoding of what is written is that of the list */
+  size_t of_verbatim = linkinfo_canon(verbatim, canon.length, first, sizeof first).length;
+  CHECK(of_verbatim == linkinfo_canon(bytes, length, second, sizeof second).length &&
+        memcmp(first, second, of_verbatim) == 0);
+}
+
 /* The canonical encoding in buffers of every length, or of some lengths about that of the encoding:
  * written where there is room for it, and else the buffer is unchanged. It is its own canonical
  * encoding, and equivalent to the list. */
@@ -417,6 +487,9 @@ static void differs(const uint8_t *a, const uint8_t *b, size_t length) {
   struct linkinfo_same_result same = linkinfo_same(a, length, b, length);
   CHECK(equal(found.error, same.error) && found.rejected == same.rejected &&
         found.same == same.same);
+  CHECK(same.same || same.rejected != 0 || !linkinfo_same_opaque(a, length, b, length).same);
+  CHECK(linkinfo_same_opaque(a, length, b, length).same ==
+        linkinfo_first_difference_opaque(a, length, b, length).same);
   if (same.same || same.rejected != 0) {
     CHECK(no_pair(&found));
     return;
@@ -469,6 +542,7 @@ static void of_string(const uint8_t *bytes, size_t length) {
   CHECK(equal(unmet.error, error) && unmet.met == is_none(error) && no_attribute(&unmet));
   lacks_all(bytes, length, error);
   placed(bytes, length);
+  opaque(bytes, length, error);
   items_of(bytes, length);
   canonical(bytes, length);
 }
@@ -537,6 +611,32 @@ static size_t write_attribute(const void *of, char *buffer, size_t room) {
   return linkinfo_attribute_name(pair[0], pair[1], buffer, room);
 }
 
+/* How the kernel uses types: of each use, and without one. */
+static void uses(void) {
+  static const struct {
+    uint16_t family, type, use;
+  } all[] = {
+      {LINKINFO_FAMILY_FRAME, 1, LINKINFO_USE_NONE},
+      {LINKINFO_FAMILY_LINKINFO, 2, LINKINFO_USE_READ_WRITE},
+      {LINKINFO_FAMILY_LINKINFO, 3, LINKINFO_USE_READ_ONLY},
+      {LINKINFO_FAMILY_VLAN, 1, LINKINFO_USE_READ_WRITE},
+      {LINKINFO_FAMILY_VLAN, 6, LINKINFO_USE_NONE},
+      {LINKINFO_FAMILY_BRIDGE, 21, LINKINFO_USE_COMMAND},
+      {LINKINFO_FAMILY_BRIDGE, 48, LINKINFO_USE_READ_ONLY},
+      {LINKINFO_FAMILY_BRIDGEPORT, 18, LINKINFO_USE_READ_ONLY},
+      {LINKINFO_FAMILY_MACVTAP, 3, LINKINFO_USE_COMMAND},
+      {LINKINFO_FAMILY_CANTDC, 1, LINKINFO_USE_READ_ONLY},
+      {LINKINFO_FAMILY_CANTDC, 7, LINKINFO_USE_READ_WRITE},
+      {LINKINFO_FAMILY_HSR, 3, LINKINFO_USE_NEVER_RETURNED},
+      {LINKINFO_FAMILY_PPP, 1, LINKINFO_USE_NEVER_RETURNED},
+      {LINKINFO_FAMILY_WIREGUARD, 1, LINKINFO_USE_NONE},
+      {0, 1, LINKINFO_USE_NONE},
+      {LAST_FAMILY + 1, 1, LINKINFO_USE_NONE},
+  };
+  for (size_t i = 0; i < sizeof all / sizeof *all; i++)
+    CHECK(linkinfo_attribute_use(all[i].family, all[i].type) == all[i].use);
+}
+
 /* Sentences of errors, and names of attributes; tests/rows.c has all names. */
 static void sentences(void) {
   static const struct {
@@ -556,6 +656,10 @@ static void sentences(void) {
       {{{LINKINFO_FAMILY_IPTUNNEL, 14, LINKINFO_CAUSE_ADDRESS_KIND}, SIZE_MAX},
        "IFLA_IPTUN_6RD_RELAY_PREFIXLEN has an address of the other IP version, "
        "at offset 18446744073709551615"},
+      {{{LINKINFO_FAMILY_VLAN, 1, LINKINFO_CAUSE_LENGTH}, 16},
+       "IFLA_VLAN_ID has a payload of invalid length, at offset 16"},
+      {{{LINKINFO_FAMILY_CANTDC, 8, LINKINFO_CAUSE_LENGTH}, 20},
+       "IFLA_CAN_TDC_TDCO has a payload of invalid length, at offset 20"},
       {{{LINKINFO_FAMILY_XFRM, 2, LINKINFO_CAUSE_NONE}, 0}, ""},
       {{{LAST_FAMILY + 1, 2, LINKINFO_CAUSE_LENGTH}, 0}, ""},
       {{{1, 0, 12}, 0}, ""},
@@ -571,7 +675,11 @@ static void sentences(void) {
       {{LINKINFO_FAMILY_IPTUNNEL, 8}, "IFLA_IPTUN_FLAGS"},
       {{LINKINFO_FAMILY_VXLAN, 0}, ""},
       {{LINKINFO_FAMILY_VXLAN, 0x8001}, ""},
-      {{LINKINFO_FAMILY_BOND, 1}, ""},
+      {{LINKINFO_FAMILY_BOND, 1}, "IFLA_BOND_MODE"},
+      {{LINKINFO_FAMILY_BONDPORT, 8}, "IFLA_BOND_SLAVE_AD_PARTNER_OPER_PORT_STATE"},
+      {{LINKINFO_FAMILY_VLANQOSMAPPING, 1}, "IFLA_VLAN_QOS_MAPPING"},
+      {{LINKINFO_FAMILY_BRIDGE, 40}, ""},
+      {{LINKINFO_FAMILY_TEAMPORT, 1}, ""},
       {{0, 1}, ""},
       {{LAST_FAMILY + 1, 1}, ""},
   };
@@ -689,6 +797,7 @@ int main(int count, char **arguments) {
   no_bytes();
   of_strings();
   sentences();
+  uses();
   texts();
   few_rooms = 0;
   nested();

@@ -29,6 +29,19 @@ static uint8_t *guarded(void) {
   return memory + ROOM;
 }
 
+/* The attributes in a nested list: their number is that of its elements. */
+static void nested(const uint8_t *bytes, size_t length, uint16_t list_kind) {
+  static struct linkinfo_valued_attribute values[ROOM / 4];
+  struct linkinfo_list_result found = linkinfo_values(bytes, length, list_kind, values, ROOM / 4);
+  CHECK(found.count <= length / 4 && found.place <= length);
+  CHECK((found.error.cause == 0) == (found.place == length));
+  for (size_t i = 0; i < found.count; i++) {
+    CHECK(values[i].place + 4 + values[i].length <= length);
+    CHECK(values[i].value.list_kind == 0);
+    seen(list_kind, values[i].raw_type % 64, values[i].value.value_type);
+  }
+}
+
 static void inside(const uint8_t *bytes, size_t length, uint16_t kind) {
   static struct linkinfo_attribute attributes[ROOM / 4];
   struct linkinfo_list_result found =
@@ -41,6 +54,12 @@ static void inside(const uint8_t *bytes, size_t length, uint16_t kind) {
     struct linkinfo_value wanted =
         value_by_rules(attributes[i].shape, payload, attributes[i].length);
     CHECK(values[i].place == attributes[i].place && values[i].shape == attributes[i].shape);
+    uint16_t list_kind = values[i].value.list_kind;
+    if (list_kind != 0) nested(payload, attributes[i].length, list_kind);
+    if (attributes[i].shape == LINKINFO_SHAPE_NESTED) {
+      CHECK(list_kind > LINKINFO_LIST_KIND_V6);
+      wanted.list_kind = list_kind;
+    }
     CHECK(equal_values(&values[i].value, &wanted));
     CHECK(attributes[i].place + 4 + attributes[i].length <= length &&
           (attributes[i].is_number || attributes[i].number == 0));
@@ -82,6 +101,30 @@ static struct linkinfo_error one(const uint8_t *bytes, size_t length) {
          items[i].length < 64 ? (unsigned)items[i].length : 64);
   }
   return error;
+}
+
+/* With bonds, bridges and their like opaque: what is accepted without is accepted, its canonical
+ * encoding is that of the one that is written, and what is equivalent stays so. */
+static void opaque(const uint8_t *a, size_t a_length, const uint8_t *b, size_t b_length,
+                   struct linkinfo_error x, struct linkinfo_error y, bool same) {
+  struct linkinfo_inner_error found = linkinfo_check_inner_opaque(a, a_length);
+  CHECK(found.inner >= found.place && found.inner <= a_length);
+  CHECK(x.cause != 0 || found.error.cause == 0);
+  struct linkinfo_same_result verbatim = linkinfo_same_opaque(a, a_length, b, b_length);
+  struct linkinfo_difference differ = linkinfo_first_difference_opaque(a, a_length, b, b_length);
+  struct linkinfo_unmet unmet = linkinfo_first_unmet_opaque(a, a_length, b, b_length);
+  CHECK(verbatim.rejected == differ.rejected && verbatim.same == differ.same);
+  CHECK(verbatim.rejected == unmet.rejected && (!verbatim.same || unmet.met));
+  CHECK(x.cause != 0 || y.cause != 0 || (verbatim.rejected == 0 && (!verbatim.same || same)));
+  static uint8_t written[2 * ROOM], again[2 * ROOM], once[2 * ROOM];
+  struct linkinfo_canon_result canon =
+      linkinfo_canon_opaque(a, a_length, written, sizeof written);
+  CHECK(memcmp(&canon.error, &found.error, sizeof canon.error) == 0);
+  if (x.cause != 0 || canon.status != LINKINFO_CANON_WRITTEN) return;
+  struct linkinfo_canon_result both = linkinfo_canon(written, canon.length, again, sizeof again);
+  struct linkinfo_canon_result typed = linkinfo_canon(a, a_length, once, sizeof once);
+  CHECK(both.status == typed.status && both.length == typed.length);
+  CHECK(typed.status != LINKINFO_CANON_WRITTEN || memcmp(again, once, typed.length) == 0);
 }
 
 /* The canonical encoding of a list: none where the list is rejected. Else it is its own canonical
@@ -141,6 +184,7 @@ int LLVMFuzzerTestOneInput(const uint8_t *data, size_t size) {
   CHECK(unmet.is_present ? unmet.have + 4 <= cut : unmet.have == 0);
   CHECK(linkinfo_first_unmet(a, cut, a, cut).met == (x.cause == 0) && (!same.same || unmet.met));
   seen(900u, unmet.family, unmet.type % 64);
+  opaque(a, cut, b, rest - cut, x, y, same.same);
   static uint8_t first[2 * ROOM], second[2 * ROOM];
   size_t of_a = canonical(a, cut, x, first), of_b = canonical(b, rest - cut, y, second);
   if (of_a != SIZE_MAX && of_b != SIZE_MAX)

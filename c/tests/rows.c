@@ -1,8 +1,8 @@
-/* The shapes that linkinfo_attributes returns for each kind and type, compared with lines of
- * rows.py on standard input: 'link NAME TYPE SHAPE' or 'port NAME TYPE SHAPE'. A type without a
- * line has no shape. So too the kernel's names: 'name FAMILY TYPE NAME'. */
+/* The shapes that linkinfo_values returns for each kind and type, compared with lines of rows.py on
+ * standard input: 'link NAME TYPE SHAPE', 'port NAME TYPE SHAPE' or 'list FAMILY TYPE SHAPE'. The
+ * shape of a list of another family is 'Nested:FAMILY'. A type without a line has no shape. So too
+ * the kernel's names: 'name FAMILY TYPE NAME'. */
 #include "linkinfo.h"
-#include <stdbool.h>
 #include <stdio.h>
 #include <string.h>
 
@@ -34,9 +34,25 @@ static struct {
   char way[8], name[32];
   uint16_t kind;
   uint16_t shapes[TYPES];
+  uint16_t list_kinds[TYPES];
   int rows;
 } kinds[MOST_KINDS];
 static size_t kind_count;
+
+/* The code of a family by its name; 0 without one. */
+static uint16_t family_of(const char *name) {
+  char text[32];
+  for (uint16_t code = 1; linkinfo_family_name(code, text, sizeof text) > 0; code++)
+    if (strcmp(text, name) == 0) return code;
+  return 0;
+}
+
+/* The kind of data, of port data or of a list. */
+static uint16_t kind_of(const char *way, const char *name) {
+  if (strcmp(way, "list") == 0) return (uint16_t)(LINKINFO_LIST_KIND_V4 + family_of(name));
+  return strcmp(way, "port") == 0 ? linkinfo_port_kind_of_name(name, strlen(name))
+                                  : linkinfo_kind_of_name(name, strlen(name));
+}
 
 static size_t kind_at(const char *way, const char *name) {
   size_t at = 0;
@@ -45,8 +61,7 @@ static size_t kind_at(const char *way, const char *name) {
   if (at == kind_count && kind_count < MOST_KINDS) {
     strcpy(kinds[at].way, way);
     strcpy(kinds[at].name, name);
-    kinds[at].kind = strcmp(way, "port") == 0 ? linkinfo_port_kind_of_name(name, strlen(name))
-                                              : linkinfo_kind_of_name(name, strlen(name));
+    kinds[at].kind = kind_of(way, name);
     kind_count++;
   }
   return at;
@@ -55,14 +70,17 @@ static size_t kind_at(const char *way, const char *name) {
 /* One attribute of a type without a payload, inside data of the kind. */
 static int has_shape(size_t at, unsigned type) {
   uint8_t bytes[4] = {4, 0, (uint8_t)type, 0};
-  struct linkinfo_attribute attribute = {0, 0, 0, 0, 0, 0};
+  struct linkinfo_valued_attribute attribute;
+  memset(&attribute, 0, sizeof attribute);
   struct linkinfo_list_result found =
-      linkinfo_attributes(bytes, sizeof bytes, kinds[at].kind, &attribute, 1);
+      linkinfo_values(bytes, sizeof bytes, kinds[at].kind, &attribute, 1);
   if (found.count == (kinds[at].rows > 0 ? 1 : found.count) &&
-      attribute.shape == kinds[at].shapes[type])
+      attribute.shape == kinds[at].shapes[type] &&
+      attribute.value.list_kind == kinds[at].list_kinds[type])
     return 1;
-  fprintf(stderr, "%s %s, type %u: shape %u, and not %s\n", kinds[at].way, kinds[at].name, type,
-          attribute.shape, names[kinds[at].shapes[type]]);
+  fprintf(stderr, "%s %s, type %u: shape %u of %u, and not %s of %u\n", kinds[at].way,
+          kinds[at].name, type, attribute.shape, attribute.value.list_kind,
+          names[kinds[at].shapes[type]], kinds[at].list_kinds[type]);
   return 0;
 }
 
@@ -72,16 +90,11 @@ static char called[MOST_FAMILIES][TYPES][48];
 static size_t name_count;
 
 static int keep_name(const char *family, unsigned type, const char *name) {
-  char text[32];
-  for (uint16_t code = 1; code < MOST_FAMILIES; code++) {
-    linkinfo_family_name(code, text, sizeof text);
-    if (strcmp(text, family) != 0) continue;
-    if (type >= TYPES || called[code][type][0] != 0) return 0;
-    strcpy(called[code][type], name);
-    name_count++;
-    return 1;
-  }
-  return 0;
+  uint16_t code = family_of(family);
+  if (code == 0 || code >= MOST_FAMILIES || type >= TYPES || called[code][type][0] != 0) return 0;
+  strcpy(called[code][type], name);
+  name_count++;
+  return 1;
 }
 
 static int has_name(uint16_t family, uint16_t type) {
@@ -115,34 +128,38 @@ static size_t known_kinds(void) {
 int main(void) {
   char way[8], name[32], shape[48];
   unsigned type, seen[SHAPES] = {0};
-  size_t rows = 0;
+  size_t rows = 0, lists = 0;
   while (scanf("%7s %31s %u %47s", way, name, &type, shape) == 4) {
     uint16_t number = 0;
     if (strcmp(way, "name") == 0) {
       if (!keep_name(name, type, shape)) return 1;
       continue;
     }
+    char *inner = strchr(shape, ':');
+    if (inner) *inner++ = 0;
     while (number < SHAPES && strcmp(names[number], shape) != 0) number++;
     size_t at = kind_at(way, name);
     if (number == SHAPES || at == MOST_KINDS || type >= TYPES) return 1;
     kinds[at].shapes[type] = number;
+    kinds[at].list_kinds[type] = number == LINKINFO_SHAPE_V4_LIST   ? LINKINFO_LIST_KIND_V4
+                                 : number == LINKINFO_SHAPE_V6_LIST ? LINKINFO_LIST_KIND_V6
+                                 : inner                            ? kind_of("list", inner)
+                                                                    : 0;
     kinds[at].rows += number != LINKINFO_SHAPE_NONE;
     rows += number != LINKINFO_SHAPE_NONE;
     seen[number]++;
   }
-  int status = kind_count == known_kinds() ? 0 : 1;
+  for (size_t at = 0; at < kind_count; at++) lists += strcmp(kinds[at].way, "list") == 0;
+  int status = kind_count == known_kinds() + lists ? 0 : 1;
   for (unsigned number = 0; number < SHAPES; number++) {
-    /* no family has a row of the shape Raw, and none of those that C reads one of Nested, or of
-     * those after it */
-    bool has_none = number == LINKINFO_SHAPE_RAW || number >= LINKINFO_SHAPE_NESTED;
-    if ((seen[number] == 0) != has_none) {
-      fprintf(stderr, "shape %s: %u rows\n", names[number], seen[number]);
+    if (seen[number] == 0) {
+      fprintf(stderr, "shape %s: no rows\n", names[number]);
       status = 1;
     }
   }
   for (size_t at = 0; at < kind_count; at++)
     for (type = 0; type < TYPES; type++)
       if (!has_shape(at, type)) status = 1;
-  printf("rows: %zu of %zu kinds and port kinds have their shapes\n", rows, kind_count);
+  printf("rows: %zu of %zu kinds, port kinds and lists have their shapes\n", rows, kind_count);
   return have_names() ? status : 1;
 }

@@ -68,6 +68,28 @@ static void *inner(void *wrong) {
   struct linkinfo_inner_error found = linkinfo_check_inner(other, sizeof other);
   return found.error.type == 4 && found.inner == sizeof list - 4 ? NULL : wrong;
 }
+static void *opaque(void *wrong) {
+  uint8_t other[sizeof list], buffer[sizeof list];
+  memcpy(other, list, sizeof list);
+  header(other + sizeof list - 4, 4, 4);
+  return linkinfo_check_inner_opaque(other, sizeof other).inner == sizeof list - 4 &&
+                 linkinfo_same_opaque(list, sizeof list, other, sizeof other).rejected == 2 &&
+                 linkinfo_canon_opaque(list, sizeof list, buffer, sizeof buffer).length ==
+                     sizeof list
+             ? NULL
+             : wrong;
+}
+static void *opaque_pairs(void *wrong) {
+  uint8_t other[sizeof list];
+  memcpy(other, list, sizeof list);
+  header(other + sizeof list - 4, 4, 0);
+  struct linkinfo_difference deep =
+      linkinfo_first_difference_opaque(list, sizeof list, other, sizeof other);
+  return deep.rejected == 0 && deep.first == sizeof list - 4 &&
+                 !linkinfo_first_unmet_opaque(list, sizeof list, other, sizeof other).met
+             ? NULL
+             : wrong;
+}
 static void *canon(void *wrong) {
   uint8_t buffer[sizeof list];
   return linkinfo_canon(list, sizeof list, buffer, sizeof buffer).length == sizeof list &&
@@ -103,6 +125,7 @@ static void *texts(void *wrong) {
                  linkinfo_family_name(error.family, text, sizeof text) == 18 &&
                  linkinfo_cause_name(error.cause, text, sizeof text) == 11 &&
                  linkinfo_attribute_name(LINKINFO_FAMILY_XFRM, 1, text, sizeof text) == 14 &&
+                 linkinfo_attribute_use(error.family, 1) == LINKINFO_USE_READ_ONLY &&
                  linkinfo_error_message(error, 0, text, sizeof text) > sizeof text
              ? NULL
              : wrong;
@@ -147,6 +170,8 @@ int main(void) {
                {"check_inner", inner},
                {"count", count},
                {"canon", canon},
+               {"check_inner_opaque, _same_opaque, _canon_opaque", opaque},
+               {"first_difference_opaque, _first_unmet_opaque", opaque_pairs},
                {"check_at", placed},
                {"items", items},
                {"attributes", attributes},

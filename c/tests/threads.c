@@ -48,6 +48,12 @@ static void *calls(void *unused) {
       if (!linkinfo_first_unmet(bytes, length, bytes, length).met ||
           !linkinfo_first_difference(bytes, length, bytes, length).same ||
           linkinfo_check_inner(bytes, length - 1).place != placed.place ||
+          !linkinfo_first_unmet_opaque(bytes, length, bytes, length).met ||
+          !linkinfo_first_difference_opaque(bytes, length, bytes, length).same ||
+          !linkinfo_same_opaque(bytes, length, bytes, length).same ||
+          linkinfo_check_inner_opaque(bytes, length).error.cause != 0 ||
+          linkinfo_canon_opaque(bytes, length, canonical, sizeof canonical).status !=
+              LINKINFO_CANON_WRITTEN ||
           linkinfo_check(bytes, length).cause != 0 ||
           !linkinfo_same(bytes, length, bytes, length).same ||
           linkinfo_count(bytes, length).count < found.count || found.count == 0 ||

@@ -60,6 +60,12 @@ static inline struct linkinfo_value bytes_value(uint32_t value_type, size_t leng
   return value;
 }
 
+static inline struct linkinfo_value list_value(uint16_t list_kind, size_t length) {
+  struct linkinfo_value value = {.value_type = LINKINFO_VALUE_LIST, .length = length};
+  value.list_kind = list_kind;
+  return value;
+}
+
 static inline struct linkinfo_value address_value(uint32_t value_type, const uint8_t *octets,
                                                   size_t length) {
   struct linkinfo_value value = {.value_type = value_type, .length = length};
@@ -67,6 +73,7 @@ static inline struct linkinfo_value address_value(uint32_t value_type, const uin
   return value;
 }
 
+/* (the kind of a nested list is that of its family, which the shape does not tell: 0) */
 static inline struct linkinfo_value value_by_rules(uint16_t shape, const uint8_t *payload,
                                                    size_t length) {
   static const struct linkinfo_value none = {.value_type = LINKINFO_VALUE_NONE};
@@ -76,7 +83,9 @@ static inline struct linkinfo_value value_by_rules(uint16_t shape, const uint8_t
       [LINKINFO_SHAPE_BE64] = 8,       [LINKINFO_SHAPE_I32] = 4,       [LINKINFO_SHAPE_TRUTH] = 1,
       [LINKINFO_SHAPE_TRUTH_ONE] = 1,  [LINKINFO_SHAPE_V4] = 4,        [LINKINFO_SHAPE_V6] = 16,
       [LINKINFO_SHAPE_GENEVE_V4] = 4,  [LINKINFO_SHAPE_GENEVE_V6] = 16, [LINKINFO_SHAPE_MAC] = 6,
-      [LINKINFO_SHAPE_BE_PAIR] = 4,    [LINKINFO_SHAPE_FLAG_PAIR] = 8, [LINKINFO_SHAPE_SCRUB] = 4};
+      [LINKINFO_SHAPE_BE_PAIR] = 4,    [LINKINFO_SHAPE_FLAG_PAIR] = 8, [LINKINFO_SHAPE_SCRUB] = 4,
+      [LINKINFO_SHAPE_BRIDGE_ID] = 8,  [LINKINFO_SHAPE_LE_PAIR16] = 4, [LINKINFO_SHAPE_LE32X8] = 32,
+      [LINKINFO_SHAPE_CAN_BIT_TIMING_CONST] = 48};
   size_t fixed = shape < sizeof lengths / sizeof *lengths ? lengths[shape] : 0;
   if (fixed != 0 && length != fixed) return none;
   switch (shape) {
@@ -127,16 +136,21 @@ static inline struct linkinfo_value value_by_rules(uint16_t shape, const uint8_t
     return pair_value(number(payload, 4, 0), number(payload + 4, 4, 0));
   case LINKINFO_SHAPE_SELF_LIST:
   case LINKINFO_SHAPE_NESTED:
+    return list_value(0, length);
   case LINKINFO_SHAPE_V4_LIST:
+    return list_value(LINKINFO_LIST_KIND_V4, length);
   case LINKINFO_SHAPE_V6_LIST:
-    return bytes_value(LINKINFO_VALUE_LIST, length);
+    return list_value(LINKINFO_LIST_KIND_V6, length);
+  case LINKINFO_SHAPE_LE16S:
+    return length % 2 == 0 ? bytes_value(LINKINFO_VALUE_BYTES, length) : none;
+  case LINKINFO_SHAPE_LE32S:
+    return length % 4 == 0 ? bytes_value(LINKINFO_VALUE_BYTES, length) : none;
+  case LINKINFO_SHAPE_RAW:
   case LINKINFO_SHAPE_PEER:
   case LINKINFO_SHAPE_BRIDGE_ID:
   case LINKINFO_SHAPE_LE_PAIR16:
   case LINKINFO_SHAPE_LE32X8:
   case LINKINFO_SHAPE_CAN_BIT_TIMING_CONST:
-  case LINKINFO_SHAPE_LE16S:
-  case LINKINFO_SHAPE_LE32S:
     return bytes_value(LINKINFO_VALUE_BYTES, length);
   default:
     return none;
@@ -147,6 +161,6 @@ static inline int equal_values(const struct linkinfo_value *a, const struct link
   return a->value_type == b->value_type && a->number == b->number &&
          a->signed_number == b->signed_number && a->length == b->length &&
          memcmp(a->octets, b->octets, sizeof a->octets) == 0 && a->first == b->first &&
-         a->second == b->second && a->truth == b->truth;
+         a->second == b->second && a->list_kind == b->list_kind && a->truth == b->truth;
 }
 #endif

@@ -12,22 +12,21 @@
  *           they call required
  *   with    what `again` sends, and one of the rejected attributes; a line for each
  */
-#include "lists.h"
-#include <errno.h>
-#include <fcntl.h>
+#include "devices.h"
 #include <linux/if_link.h>
 #include <linux/rtnetlink.h>
-#include <net/if.h>
 #include <sys/reboot.h>
 #include <sys/socket.h>
 #include <sys/syscall.h>
 #include <sys/utsname.h>
-#include <time.h>
-#include <unistd.h>
 
 /* The lower links of other links: dummies that are up, with fixed indices and addresses, so that
- * requests can name them. */
-enum { LOWER = 101, LOWER_COUNT = 3 };
+ * requests can name them. The same of members, the ports of a link that needs some. */
+enum { LOWER = 101, LOWER_COUNT = 3, MEMBER = 111, MEMBER_COUNT = 2 };
+
+/* The milliseconds until a master has been notified that its port is up, and a bond in the mode
+ * 802.3ad, which looks at its ports each 100 milliseconds, has looked at it. */
+enum { SETTLED = 250 };
 
 static int sock;
 
@@ -129,15 +128,17 @@ static bool report(const char *name, const char *verb, const struct list *sent, 
   return !error;
 }
 
-/* The name of the link of which a port is needed, or NULL. */
-static const char *master_of(const struct request *request) {
-  const char *need = strstr(request->needs, "port=");
-  return need ? need + strlen("port=") : NULL;
+/* What follows a need of a link, as "port=", or NULL. Such a need is its last one. */
+static const char *value_of(const struct request *request, const char *need) {
+  const char *found = strstr(request->needs, need);
+  return found ? found + strlen(need) : NULL;
 }
 
-static void wait_for(long milliseconds) {
-  nanosleep(&(struct timespec){milliseconds / 1000, milliseconds % 1000 * 1000000}, NULL);
-}
+/* The name of the link of which a port is needed, or NULL. */
+static const char *master_of(const struct request *request) { return value_of(request, "port="); }
+
+/* The sort of a link that no request makes, or NULL. */
+static const char *sort_of(const struct request *request) { return value_of(request, "made="); }
 
 /* Sends a request that no line reports. */
 static void prepare(const char *name, uint16_t flags, struct list *body) {
@@ -145,10 +146,34 @@ static void prepare(const char *name, uint16_t flags, struct list *body) {
   if (error) printf("%s: %s\n", name, strerror(error));
 }
 
-static void append_dummy(struct list *body) {
-  struct list info = {0};
+/* A request for a dummy of a name and an address of that number. */
+static struct list dummy(const struct ifinfomsg *head, const char *name, uint8_t number) {
+  struct list body = message(head, name), info = {0};
+  append_address(&body, number);
   append_attribute(&info, KIND, "dummy", sizeof "dummy");
-  append_attribute(body, IFLA_LINKINFO, info.bytes, info.length);
+  append_attribute(&body, IFLA_LINKINFO, info.bytes, info.length);
+  return body;
+}
+
+/* Makes dummies from an index on, named after it. */
+static void make_dummies(const char *name, int first, int count, bool is_up) {
+  struct ifinfomsg head = head_of(is_up);
+  for (head.ifi_index = first; head.ifi_index < first + count; head.ifi_index++) {
+    char numbered[WORD];
+    snprintf(numbered, sizeof numbered, "%s%d", name, head.ifi_index);
+    struct list body = dummy(&head, numbered, (uint8_t)head.ifi_index);
+    prepare(numbered, NLM_F_CREATE | NLM_F_EXCL, &body);
+  }
+}
+
+/* Makes the members ports of a link. */
+static void join_members(const char *master) {
+  for (int index = MEMBER; index < MEMBER + MEMBER_COUNT; index++) {
+    struct list body = message(&(struct ifinfomsg){.ifi_index = index}, NULL);
+    append_number(&body, IFLA_MASTER, if_nametoindex(master));
+    prepare(master, 0, &body);
+  }
+  wait_for(SETTLED);
 }
 
 /* The request that makes a link; none is NULL. */
@@ -159,42 +184,65 @@ static const struct request *request_of(const char *name) {
   return NULL;
 }
 
-/* Creates the master of a port by its request, and the port, a dummy; both are up. */
-static void make_port(const char *name, const char *master) {
+/* Creates the master of a port by its request, with members where the port needs them, and the
+ * port, a dummy. The master and the port are up. */
+static void make_port(const struct request *port, const char *master) {
   const struct request *request = request_of(master);
   struct ifinfomsg up = head_of(true), as_is = head_of(false);
   if (!request) stop("no request for %s", master);
   struct list body = message(&up, master);
   append_attribute(&body, IFLA_LINKINFO, request->list.bytes, request->list.length);
   prepare(master, NLM_F_CREATE | NLM_F_EXCL, &body);
-  body = message(&as_is, name);
+  if (strstr(port->needs, "members")) join_members(master);
+  body = dummy(&as_is, port->name, 0);
   append_number(&body, IFLA_MASTER, if_nametoindex(master));
-  append_address(&body, 0);
-  append_dummy(&body);
-  prepare(name, NLM_F_CREATE | NLM_F_EXCL, &body);
-  body = message(&up, name);
-  prepare(name, 0, &body);
-  wait_for(100); /* until the kernel has notified the master that the port is up */
+  prepare(port->name, NLM_F_CREATE | NLM_F_EXCL, &body);
+  body = message(&up, port->name);
+  prepare(port->name, 0, &body);
+  wait_for(SETTLED);
 }
 
-/* Requests a link that does not exist yet, and reports the reply. A port is created first: port
- * data is for a link that has a master. */
+/* Makes a link that no request makes, and gives it its name. */
+static void make_named_device(const char *sort, const char *name) {
+  const char *made = make_device(sort, name);
+  struct list body = message(&(struct ifinfomsg){.ifi_index = (int)if_nametoindex(made)}, name);
+  prepare(name, 0, &body);
+}
+
+/* Makes what a request needs, and returns whether its link is there then. Port data is for a link
+ * that has a master. */
+static bool make_needs(const struct request *request) {
+  const char *master = master_of(request), *sort = sort_of(request);
+  if (strstr(request->needs, "members")) make_dummies("member", MEMBER, MEMBER_COUNT, false);
+  if (master) make_port(request, master);
+  if (sort) make_named_device(sort, request->name);
+  return master || sort;
+}
+
+/* Requests a link, and reports the reply. Nothing is sent where the list is empty. */
 static bool create(const struct request *request, const char *verb, const struct list *info,
                    struct list *reply) {
-  const char *master = master_of(request);
+  bool is_there = make_needs(request);
   struct ifinfomsg head = head_of(strstr(request->needs, "later"));
   struct list body = message(&head, request->name);
-  if (master) make_port(request->name, master);
   if (strstr(request->needs, "parent")) append_number(&body, IFLA_LINK, LOWER);
   append_attribute(&body, IFLA_LINKINFO, info->bytes, info->length);
-  int error = ask(RTM_NEWLINK, master ? 0 : NLM_F_CREATE | NLM_F_EXCL, &body);
+  int flags = is_there ? 0 : NLM_F_CREATE | NLM_F_EXCL;
+  int error = info->length ? ask(RTM_NEWLINK, (uint16_t)flags, &body) : 0;
+  if (!is_there && strstr(request->needs, "members")) join_members(request->name);
   return report(request->name, verb, info, error, &body, reply);
 }
 
 static void delete(const struct request *request) {
-  const char *master = master_of(request);
-  delete_link(request->name);
+  const char *master = master_of(request), *sort = sort_of(request);
+  if (sort) remove_device(sort, request->name);
+  else delete_link(request->name);
   if (master) delete_link(master);
+  for (int at = 0; strstr(request->needs, "members") && at < MEMBER_COUNT; at++) {
+    char name[WORD];
+    snprintf(name, sizeof name, "member%d", MEMBER + at);
+    delete_link(name);
+  }
 }
 
 /* Sends each change of a link, and reports it. */
@@ -221,7 +269,7 @@ static void ask_about(const struct request *request) {
   }
   if (is_made) change(request);
   delete(request);
-  if (!is_made || !canonical(&reply, &whole)) return;
+  if (!is_made || !request->list.length || !canonical(&reply, &whole)) return;
   again = sent_again(request->name, &whole, &request->list, NULL);
   if (!is_equal(&whole, &again)) {
     create(request, "whole", &whole, &later);
@@ -254,15 +302,7 @@ static void make_lower_links(void) {
   struct ifinfomsg head = head_of(true);
   struct list body = message(&head, "lo");
   prepare("lo", 0, &body);
-  for (int at = 0; at < LOWER_COUNT; at++) {
-    char name[WORD];
-    snprintf(name, sizeof name, "lower%d", LOWER + at);
-    head.ifi_index = LOWER + at;
-    body = message(&head, name);
-    append_address(&body, (uint8_t)(LOWER + at));
-    append_dummy(&body);
-    prepare(name, NLM_F_CREATE | NLM_F_EXCL, &body);
-  }
+  make_dummies("lower", LOWER, LOWER_COUNT, true);
 }
 
 int main(void) {
@@ -271,6 +311,7 @@ int main(void) {
   uname(&names);
   printf("reply kernel %s\n", names.release);
   load_modules();
+  prepare_devices();
   sock = socket(AF_NETLINK, SOCK_RAW, NETLINK_ROUTE);
   setsockopt(sock, SOL_NETLINK, NETLINK_EXT_ACK, &on, sizeof on);
   setsockopt(sock, SOL_NETLINK, NETLINK_CAP_ACK, &on, sizeof on);

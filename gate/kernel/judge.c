@@ -1,8 +1,10 @@
 /* judge REQUESTS EXCEPTIONS REPLIES: judges the replies of a kernel, the lines of ask.c, by
  * linkinfo.h alone. REQUESTS and EXCEPTIONS are flat, as `run` makes them.
  *
- * - Each request is its own canonical string, and each kind and port kind of linkinfo.h has one.
- * - The kernel accepts each request, and its reply is a canonical string that meets the request.
+ * - Each request is its own canonical string with bonds, bridges and their like opaque, and each
+ *   kind and port kind of linkinfo.h has one.
+ * - The kernel accepts each request, and its reply meets the request. It is its own canonical
+ *   string, also with these opaque.
  * - The reply before a change does not meet the attributes that the change has, each at its offset.
  *   The reply after it meets the change, and differs from the one before in these attributes alone.
  *   Each kind that the kernel makes has a change, or a row that says why there is none.
@@ -10,9 +12,9 @@
  * - A second later nothing of a link has changed.
  *
  * Exceptions to these are rows of docs/KERNEL.md; a row that is not needed is a failure too. What
- * one list does not meet of another one is computed here, by the format, and linkinfo_first_unmet
- * must agree for each pair. The last line is 'N passed, M failed'; the status is 1 where M is not
- * 0. */
+ * one list does not meet of another one is computed here, by the format: linkinfo_first_unmet must
+ * agree for each pair, and so must linkinfo_first_unmet_opaque. The last line is 'N passed, M
+ * failed'; the status is 1 where M is not 0. */
 #include "lists.h"
 
 /* The comparisons in which 4 is added to one of the library's offsets, so that `run` can try
@@ -107,22 +109,119 @@ static void compare(const struct list *have, const struct list *want, struct unm
   }
 }
 
-/* Whether linkinfo_first_unmet returns the first attribute that the comparison does not find
- * met. */
+/* A type of attributes that are lists of another family, and whether such a list is a set. */
+struct nested {
+  const char *owner;
+  int type;
+  uint16_t family;
+  bool is_set;
+};
+
+static const struct nested nested_types[] = {
+    {"vlan", 3, LINKINFO_FAMILY_VLANQOSMAPPING, true},
+    {"vlan", 4, LINKINFO_FAMILY_VLANQOSMAPPING, true},
+    {"bond", 23, LINKINFO_FAMILY_BONDADINFO, false},
+    {"bridge", 47, LINKINFO_FAMILY_BRIDGEQUERIERSTATE, false},
+    {"can", 16, LINKINFO_FAMILY_CANTDC, false},
+    {"can", 17, LINKINFO_FAMILY_CANCTRLMODEEXT, false},
+    {"can", 21, LINKINFO_FAMILY_CANTDC, false},
+    {"can", 22, LINKINFO_FAMILY_CANPWM, false},
+};
+
+static const struct nested *nested_of(const char *owner, int type) {
+  for (size_t at = 0; at < sizeof nested_types / sizeof *nested_types; at++) {
+    const struct nested *each = &nested_types[at];
+    if (!strcmp(each->owner, owner) && each->type == type) return each;
+  }
+  return NULL;
+}
+
+static bool is_member(const struct list *set, const struct attribute *wanted) {
+  struct attribute each;
+  for (size_t offset = 0; next_attribute(set, &offset, &each);) {
+    if (each.type == wanted->type && is_equal_payload(&each, wanted)) return true;
+  }
+  return false;
+}
+
+/* The first attribute of a nested list that another one does not meet, at these offsets of the
+ * payloads; false where all are met. */
+static bool unmet_inside(const struct nested *nested, const struct list *have, size_t have_base,
+                         const struct list *want, size_t want_base, struct linkinfo_unmet *unmet) {
+  struct attribute wanted, found, last;
+  for (size_t offset = 0; next_attribute(want, &offset, &wanted);) {
+    bool is_present = !nested->is_set && last_of_type(have, wanted.type, &found);
+    if (nested->is_set ? is_member(have, &wanted)
+                       : is_present && is_equal_payload(&found, &wanted))
+      continue;
+    if (!nested->is_set && last_of_type(want, wanted.type, &last) && last.offset != wanted.offset)
+      continue;
+    unmet->family = nested->family;
+    unmet->type = (uint16_t)wanted.type;
+    unmet->want = want_base + wanted.offset;
+    unmet->is_present = is_present;
+    unmet->have = is_present ? have_base + found.offset : 0;
+    return true;
+  }
+  return false;
+}
+
+/* The nested list at an offset of a list. */
+static struct list nested_at(const struct list *list, size_t offset) {
+  struct list payload = {0};
+  append(&payload, list->bytes + offset + 4, native16(list->bytes + offset) - 4u);
+  return payload;
+}
+
+/* What the library is to return: the first attribute that is not met, and of lists of another
+ * family the first one inside that is not met. False where all are met. */
+static bool first_of(const struct list *have, const struct list *want,
+                     const struct unmets *unmets, struct linkinfo_unmet *unmet) {
+  for (const struct unmet *each = unmets->each; each < unmets->each + unmets->count; each++) {
+    const struct nested *nested = nested_of(each->owner, each->type);
+    if (!nested || !each->is_present) {
+      unmet->family = each->type == WHOLE ? LINKINFO_FAMILY_LINKINFO : LINKINFO_FAMILY_NONE;
+      unmet->type = native16(want->bytes + each->want + 2) & TYPE_MASK;
+      unmet->want = each->want;
+      unmet->is_present = each->is_present;
+      unmet->have = each->have;
+      return true;
+    }
+    struct list had = nested_at(have, each->have), asked = nested_at(want, each->want);
+    if (unmet_inside(nested, &had, each->have + 4, &asked, each->want + 4, unmet)) return true;
+  }
+  return false;
+}
+
+/* Whether a result is the expected one, of which the family is that of an attribute of the list or
+ * of a nested list, or else not known. */
+static bool is_result(const struct linkinfo_unmet *result, const struct linkinfo_unmet *expected) {
+  bool is_family = expected->family == LINKINFO_FAMILY_NONE
+                       ? result->family != LINKINFO_FAMILY_LINKINFO
+                       : result->family == expected->family;
+  return is_family && !result->met && result->type == expected->type &&
+         result->want == expected->want && result->is_present == expected->is_present &&
+         result->have == expected->have;
+}
+
+/* Whether linkinfo_first_unmet returns the first attribute that the comparison does not find met,
+ * and so does linkinfo_first_unmet_opaque, without looking into nested lists. */
 static bool library_agrees(const char *verb, const struct list *have, const struct list *want,
                            const struct unmets *unmets) {
-  struct linkinfo_unmet result =
-      linkinfo_first_unmet(have->bytes, have->length, want->bytes, want->length);
-  const struct unmet *first = unmets->each;
+  struct linkinfo_unmet expected, result = linkinfo_first_unmet(have->bytes, have->length,
+                                                                want->bytes, want->length);
+  struct linkinfo_unmet opaque = linkinfo_first_unmet_opaque(have->bytes, have->length,
+                                                             want->bytes, want->length);
   if (!strcmp(verb, WRONG_WANT)) result.want += 4;
   if (!strcmp(verb, WRONG_HAVE)) result.have += 4;
-  if (result.rejected != 0) return false;
-  if (unmets->count == 0) return result.met;
-  uint16_t type = native16(want->bytes + first->want + 2) & TYPE_MASK;
-  bool is_whole = result.family == LINKINFO_FAMILY_LINKINFO;
-  return !result.met && is_whole == (first->type == WHOLE) && result.type == type &&
-         result.want == first->want && result.is_present == first->is_present &&
-         result.have == first->have;
+  if (result.rejected != 0 || opaque.rejected != 0) return false;
+  if (unmets->count == 0) return result.met && opaque.met;
+  const struct unmet *first = unmets->each;
+  bool is_whole = opaque.family == LINKINFO_FAMILY_LINKINFO;
+  if (opaque.met || is_whole != (first->type == WHOLE) || opaque.want != first->want ||
+      opaque.is_present != first->is_present || opaque.have != first->have)
+    return false;
+  return first_of(have, want, unmets, &expected) ? is_result(&result, &expected) : result.met;
 }
 
 static void compare_by_both(const char *name, const char *verb, const struct list *have,
@@ -167,9 +266,20 @@ static void judge_unmets(const char *name, const char *verb, const struct unmets
   passed += failed == failed_before;
 }
 
+/* Whether a list is its own canonical encoding with bonds, bridges and their like opaque: only a
+ * request may lack NLA_F_NESTED, as that of iproute2 for IFLA_BOND_NS_IP6_TARGET does. */
+static bool is_verbatim(const struct list *list) {
+  static struct list written;
+  struct linkinfo_canon_result result =
+      linkinfo_canon_opaque(list->bytes, list->length, written.bytes, sizeof written.bytes);
+  written.length = result.length;
+  return result.status == LINKINFO_CANON_WRITTEN && is_equal(list, &written);
+}
+
+/* Whether both canonical encodings of a list are the list. */
 static bool is_canonical(const struct list *list) {
   static struct list written;
-  return canonical(list, &written) && is_equal(list, &written);
+  return canonical(list, &written) && is_equal(list, &written) && is_verbatim(list);
 }
 
 /* The reply to the request of a verb for a link, or to the next one after `last`; none is NULL. */
@@ -339,7 +449,7 @@ static void judge_changes(const struct request *request, const struct reply *fir
       change_is_excepted[kind] |= exception->type == WHOLE;
       continue;
     }
-    judge(is_canonical(&sent), request->name, "a change is not canonical");
+    judge(is_verbatim(&sent), request->name, "a change is not canonical");
     if (!is_accepted(request->name, "change", reply, &sent)) continue;
     kind_is_changed[kind] |= judge_change(each, &sent, &before, &reply->list);
     last = sent;
@@ -352,6 +462,7 @@ static void judge_changes(const struct request *request, const struct reply *fir
 static void judge_second(const struct request *request, const struct list *first) {
   static struct unmets unmets;
   struct list sent = sent_again(request->name, first, &request->list, NULL);
+  if (!request->list.length) return;
   if (!is_equal(&sent, first)) {
     judge(is_rejected(request->name, "whole", first), request->name, "whole: not rejected");
   }
@@ -468,7 +579,7 @@ int main(int count, char **arguments) {
   for (size_t at = 0; at < request_count; at++) {
     const struct request *request = &requests[at];
     if (strcmp(request->verb, "create")) continue;
-    judge(is_canonical(&request->list), request->name, "the request is not canonical");
+    judge(is_verbatim(&request->list), request->name, "the request is not canonical");
     judge_request(request);
   }
   judge_kinds();

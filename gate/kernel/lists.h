@@ -11,7 +11,7 @@
 #include <string.h>
 
 enum { KIND = 1, DATA = 2, PORT_KIND = 4, PORT_DATA = 5, WHOLE = -1, TYPE_MASK = 0x3fff };
-enum { LIST_ROOM = 8192, LINES = 1024, WORD = 24 };
+enum { LIST_ROOM = 8192, LINES = 1024, WORD = 24, NEEDS = 48 };
 
 /* A list of attributes, or the payload of one. */
 struct list {
@@ -126,7 +126,7 @@ static void owner_of(const struct list *list, int data_type, char owner[WORD]) {
 /* A line of requests: the verb, the link's name, what else it needs, and a list: of `create` the
  * contents of IFLA_LINKINFO, of `change` the attributes in data that it changes. */
 struct request {
-  char verb[WORD], name[WORD], needs[WORD];
+  char verb[WORD], name[WORD], needs[NEEDS];
   struct list list;
 };
 
@@ -161,7 +161,7 @@ static void read_requests(const char *path) {
   static char hex[2 * LIST_ROOM];
   FILE *file = open_lines(path);
   for (struct request *next = requests;
-       fscanf(file, "%23s %23s %23s %16383s", next->verb, next->name, next->needs, hex) == 4;
+       fscanf(file, "%23s %23s %47s %16383s", next->verb, next->name, next->needs, hex) == 4;
        next = &requests[++request_count]) {
     if (request_count == LINES - 1) stop("more than %d requests", LINES - 1);
     next->list = list_of_hex(hex);

@@ -3,9 +3,10 @@ import dataclasses
 import pathlib
 import tempfile
 
-from . import calls, fetch, header, headers, lists, printed, rows, ynl
+from . import calls, fetch, header, headers, lists, printed, rows, uses, ynl
 
 HERE = pathlib.Path(__file__).resolve().parent
+TABLES = HERE.parents[1] / "tables"
 # What `ip` prints of real links.
 LINKS = HERE.parent / "show/ip.json"
 # The check of names that the headers have and no table has.
@@ -111,4 +112,6 @@ def judged(tables, given):
             ("drivers", calls.check, given.calls, "not_as_drivers"),
             ("ip", printed.check, given.links, "not_printed")):
         found[name], counts[name] = check(families, source, lists.read(known))
+    found["uses"], counts["uses"] = uses.check(
+        families, given.calls, lists.read("not_as_used"), uses.read(TABLES))
     return found, counts

@@ -32,10 +32,12 @@ def kernel_cases(tables, given, kept):
     yield "the list inside IFLA_LINKINFO", written.check_list(read, given.numbers)
 
 
-def written_cases(tables):
+def written_cases(tables, kept):
     """What files do not have as the tables have it, by file."""
     for path in written.FILES:
         yield path, written.check(path, tables, read)
+    yield f"how many attributes have a type in {written.FORMAT}", written.check_counts(
+        read, tables[0], kept.numbers, lists.read("apart"))
     yield f"counts and formats of {written.SHOW}", written.check_show(read, tables[0])
 
 
@@ -67,7 +69,7 @@ def cases(options):
         given, taken = evidence.with_fetched_headers(kept, tables)
     print(f"tables: headers: {taken}")
     yield "the stored list of names", evidence.altered(kept, given)
-    found = [*kernel_cases(tables, given, kept), *written_cases(tables)]
+    found = [*kernel_cases(tables, given, kept), *written_cases(tables, kept)]
     yield from found
     if any(wrong for _, wrong in found):
         print("tables: no errors were planted, since there are some")

@@ -119,14 +119,18 @@ def family(path, root):
 
 
 def values(path, root):
-    """The named numbers of the types of a group."""
-    kind = by_hand = None
+    """The named numbers of the types of a group; a type `as` another one has those of that one."""
+    kind, by_hand, found = None, False, {}
     for place, line in numbered(path, root):
         if re.match(r"[A-Z]\w*  ", line):
             kind, by_hand = line.split()[0], "by hand" in line
+            same = re.search(r"\bas (\w+)", line)
+            found[kind] = [dataclasses.replace(it, type=kind, by_hand=by_hand)
+                           for it in (found[same[1]] if same else [])]
         elif kind and re.match(rf" +({NUMBER.pattern})  ", line):
             number, kernel, variant, *_ = cells(line)
-            yield Value(place, kind, int(number, 0), kernel, variant, by_hand)
+            found[kind].append(Value(place, kind, int(number, 0), kernel, variant, by_hand))
+    return [value for of_type in found.values() for value in of_type]
 
 
 def is_family(path):

@@ -10,8 +10,9 @@ FORMS = {"names": (r"[A-Z][A-Z0-9_]*", "no name of capitals, digits and _"),
          "member": (r"(?!others$|rest$)[a-z][a-z0-9_]*|", "no member")}
 # The most bytes of a name that the library returns (`attribute_name`).
 MOST = 47
-# The words of a `links` line that are no kind: of families inside others, and of ports.
-NO_KIND = re.compile(r"^(in |ports of )|, and its ports$")
+# The words of a `links` line that are no kind: of families inside others, of ports, and of kinds
+# that `InfoKind` does not name.
+NO_KIND = re.compile(r"^(in |ports of )|, and its ports$| \(Other\)$")
 
 
 def cells_wrong(family, formats):

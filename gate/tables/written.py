@@ -42,7 +42,7 @@ def names(families, _values):
     """The kernel's names, by family; of two families each has its own, if there are two."""
     return {name: list(dict.fromkeys((row.number, row.names[min(at, len(row.names) - 1)])
                                      for row in typed(family)))
-            for family in families if typed(family) and not family.layered
+            for family in families if typed(family)
             for at, name in enumerate(family.names)}
 
 
@@ -80,7 +80,7 @@ def format_rows(families, _values):
 
 def show_rows(families, _values):
     """The rows of docs/SHOW.md, by the links of a section."""
-    return {kind or family.links: shown(family, kind)
+    return {kind or family.links.removesuffix(" (Other)"): shown(family, kind)
             for family in families for kind in family.views or [""]}
 
 
@@ -156,6 +156,29 @@ def check_list(read, numbers):
     return [f"{path}: {row} is not as in the kernel's headers"
             for path, rows in ((NAMES, in_code), (FORMAT, on_page))
             for row in set(rows) ^ set(wanted)]
+
+
+def counts(families, numbers, apart):
+    """How many of the kernel's names of attributes in data have a type in every layer, how many in
+    the typed layer alone, and how many have none: those of rows without a variant, and those that
+    `apart` says have no row."""
+    present, layered, none = set(), set(), set()
+    for family in families:
+        for row in family.rows:
+            (none if not row.variants else layered if family.layered else present).update(row.names)
+    without = {name for name in numbers if apart.reasons.get(name) == "has no row"}
+    return len(present), len(layered - present), len((none | without) - present - layered)
+
+
+def check_counts(read, families, numbers, apart):
+    """What docs/FORMAT.md says otherwise of how many attributes have a type."""
+    present, layered, none = counts(families, numbers, apart)
+    typed_in_one = present + layered
+    wanted = (f"define {typed_in_one + none} attributes in data of links and of ports. "
+              f"{typed_in_one} of them have a type: {present} in every layer, and {layered} in the "
+              f"typed one. The other {none} are kept verbatim")
+    said = " ".join(read(FORMAT).split())
+    return [f"{FORMAT}: it does not say that the headers {wanted}"] * (wanted not in said)
 
 
 def check_show(read, families):

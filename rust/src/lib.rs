@@ -67,7 +67,8 @@
 //!   offset, and is displayed as a sentence, as [`Explanation`] is. [`ErrorIn`] says which of two
 //!   lists has the error; [`ErrorIn::at`] adds the offset. [`ToVecError`], [`CanonError`] and
 //!   [`CanonIntoError`] are those of writing, [`AllocError`] and [`AllocFailed`] those of memory.
-//!   [`attribute_name`] is the kernel's name of a type.
+//!   [`attribute_name`] is the kernel's name of a type, and [`attribute_use`] how the kernel uses
+//!   it.
 //! - **Families of attributes**: one enum for the data of each kind or of several, as
 //!   [`InfoVxlan`], [`InfoGre`] or [`InfoMacSec`]. Those of bond, bridge, vlan and others are kept
 //!   verbatim ([`InfoBond`], [`InfoBridge`], [`InfoVlan`]).
@@ -164,7 +165,7 @@ pub use compat::{AllocError, AllocFailed};
 #[doc(inline)]
 pub use layers::link::{CanonError, CanonIntoError, ErrorAt, ErrorIn};
 #[doc(inline)]
-pub use layers::names::{Explanation, attribute_name};
+pub use layers::names::{AttributeUse, Explanation, attribute_name, attribute_use};
 #[doc(inline)]
 pub use layers::nla_frame::{Cause, DecodeError, Family, ToVecError};
 
@@ -213,14 +214,14 @@ pub use bitflags::Flags;
 pub use layers::numbers::{
     AmtMode, BondAdSelect, BondAllPortActive, BondArpAllTargets, BondArpValidate, BondFailOverMac,
     BondLacpRate, BondMode, BondPortState, BondPrimaryReselect, BondXmitHashPolicy,
-    BridgeBooleanOptionFlags, BridgeMulticastRouterType, BridgePortState, BridgeStpMode,
-    BridgeStpState, CanCtrlModeFlags, CanState, ChurnState, ErSpanDir, EthernetProtocol, GeneveDf,
-    GreEncapFlags, GreEncapType, GreIOFlags, GtpRole, HsrProtocol, InfoRmNetFlags, Ip6TunnelFlags,
-    IpProtocol, IpVlanFlags, IpVlanMode, IpVtapFlags, IpVtapMode, IpoibMode, LacpState,
-    LacpState16, MacSecCipherId, MacSecOffload, MacSecValidate, MacVlanFlags,
-    MacVlanMacAddressMode, MacVlanMode, MacVtapFlags, MacVtapMacAddressMode, MacVtapMode,
-    MiiStatus, NetkitMode, NetkitPolicy, NetkitScrub, OnOff, RmNetFlags, TunType, TunnelEncapFlags,
-    TunnelEncapType, VlanFlags, VlanProtocol, VxlanDf,
+    BridgeBooleanOptionFlags, BridgeBooleanOptions, BridgeMulticastRouterType, BridgePortState,
+    BridgeStpMode, BridgeStpState, CanClock, CanCtrlMode, CanCtrlModeFlags, CanState, ChurnState,
+    ErSpanDir, EthernetProtocol, GeneveDf, GreEncapFlags, GreEncapType, GreIOFlags, GtpRole,
+    HsrProtocol, InfoRmNetFlags, Ip6TunnelFlags, IpProtocol, IpVlanFlags, IpVlanMode, IpVtapFlags,
+    IpVtapMode, IpoibMode, LacpState, LacpState16, MacSecCipherId, MacSecOffload, MacSecValidate,
+    MacVlanFlags, MacVlanMacAddressMode, MacVlanMode, MacVtapFlags, MacVtapMacAddressMode,
+    MacVtapMode, MiiStatus, NetkitMode, NetkitPolicy, NetkitScrub, OnOff, OvpnMode, RmNetFlags,
+    TunType, TunnelEncapFlags, TunnelEncapType, VlanFlags, VlanProtocol, VxlanDf,
 };
 // End: written by tables/generate.
 

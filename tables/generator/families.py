@@ -13,6 +13,7 @@ COLUMNS = ["type", "name", "variant", "layout", "member", "shown as"]
 KEYS = ["family", "links", "names", "twin", "tables", "header", "about", "note", "alias", "rows"]
 INNER = ("inner ", "inner set ")    # the families of lists inside others, and those that are sets
 LAYERED = ("typed ", *INNER)        # the families of the typed layer, and those inside them
+UNNAMED = " (Other)"  # of the links of a family whose kind `InfoKind` does not name
 FAMILY = re.compile(
     r"(\w+)(?: and (\w+))?"
     r"(?:, (by hand |typed |inner |inner set )?in (\w+)(?:::(\w+)(?: and (\w+))?)?)?")
@@ -103,7 +104,8 @@ class Family:
         self.type, self.snake = "Info" * (not self.inner) + self.name, snake(self.name)
         self.module, self.constant = module or self.snake, self.snake.upper()
         self.modules, self.spec = [self.module, *[other] * bool(other)], camel(self.module)
-        self.links, self.about, self.note = head["links"], head["about"], head["note"]
+        self.links = head["links"].removesuffix(UNNAMED)
+        self.about, self.note = head["about"], head["note"]
         self.prefix, more = names.groups()
         self.twin_prefix = head["twin"].removesuffix("*") or self.prefix
         self.header, self.listed_in = head["header"] or form.LINK_HEADER, head["rows"]

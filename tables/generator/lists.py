@@ -2,7 +2,7 @@
 from . import places
 from .marks import of_row
 from .parts import Whole
-from .text import enclosed, listed
+from .text import MOST, enclosed, listed
 
 SHAPES = "crates/linkinfo_shapes"
 
@@ -10,6 +10,12 @@ SHAPES = "crates/linkinfo_shapes"
 def either(names, between=" | "):
     """Alternatives of a match."""
     return between.join(f"Family::{name}" for name in names)
+
+
+def others(names, result):
+    """The alternatives of the last arm of a match, on one line if that fits."""
+    line = either(names)
+    return line if len(f"        {line} => {result},") <= MOST else either(names, "\n        | ")
 
 
 def whole(path, name, rows, **given):
@@ -67,19 +73,22 @@ def layered(tables):
 def outputs(tables):
     """The shapes and the names."""
     typed = [family for family in tables.present if family.plain]
-    values, named = [marks(it) for it in typed], [it for family in typed for it in names(family)]
+    values = [marks(it) for it in typed]
+    called = [*typed, *tables.layered]
+    named = [it for family in called for it in names(family)]
     shapes = {row.shape for family in typed for row in family.plain}
     yield from layered(tables)
     has = {name for family in typed for name in family.families}
     without = [row["family"] for row in tables.coded if row["family"] not in has]
     yield whole(f"{SHAPES}/src/table.rt", "shapes", values,
                 used=", ".join(f"{family.snake}_rows" for family in typed),
-                without=either(without, "\n        | "))
+                without=others(without, "None"))
     yield whole(f"{SHAPES}/specs/Table.antt", "shapes_spec", values,
                 names_of_shapes=", ".join(it for it in tables.layouts if it in shapes))
     yield whole("crates/linkinfo_names/src/entries.rt", "names", named)
-    without.remove("LinkInfo")
+    has |= {"LinkInfo", *(name for family in called for name in family.families)}
+    without = [row["family"] for row in tables.coded if row["family"] not in has]
     named.insert(0, {"constant": "LINK_INFO", "arm": "Family::LinkInfo", "name": "LinkInfo",
                      "twin": ""})
     yield from constant_parts("linkinfo_names", "names", named, [it["constant"] for it in named],
-                              of="names_of", call="rows", without=either(without, "\n        | "))
+                              of="names_of", call="rows", without=others(without, "&[]"))

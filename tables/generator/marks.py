@@ -15,7 +15,7 @@ KNOWN = {"number": "Decides-eqb", "truth": "booleans_Decides",
          "numbers": "(pointwise_decides Decides-eqb)"}
 CONTRACTS = {"[u8; 6]": "ArrayU86", "i32": "I32"}     # how names of contracts have a type
 ADDRESSES = {"ipv4_list": "Ipv4Addr", "ipv6_list": "Ipv6Addr"}      # of lists, by their entries
-HOW = {"number": " as ‹›", "reference": " as &‹›", "flags": " as flags ‹›",
+HOW = {"number": " as ‹›", "reference": " as &‹›", "flags": " as flags ‹›", "record": " as ‹›",
        "pair": " by flags_of, pair_of", "sets": " by flags_of, pair_of",
        "scrub": " by scrub_of, is_by_default"}
 
@@ -27,7 +27,7 @@ def kept(row, marks):
     if row.numbered:
         label = f"ap (typed {row.number} {row.shape})"
         return f"λ n. {label} (key-value_of {marks['value']}_table_holds n)"
-    return f"λ {'n' if marks['set'] else row.layout.variable}. refl"
+    return f"λ {'n' if marks['bits_of'] else row.layout.variable}. refl"
 
 
 def keeps(rows):
@@ -52,7 +52,7 @@ def stored(row, marks, seen):
     if row.layout.read:
         call, clause = row.layout.read.split()
         read = f"{result(call)}.ensures.{clause}"
-    if marks["set"]:
+    if row.made == "flags":
         bits = result("from_bits_retain")
         made = f"(ap (λ n. {constructor(row.variant)} ({marks['value']} n)) ({bits}.ensures tt))"
     elif row.value:
@@ -87,6 +87,15 @@ def exact(row, at, lets, is_listed):
     return found
 
 
+def made_marks(row):
+    """The marks of a row whose number, or pair of numbers, is made into a value without names: the
+    field of a set or of a record, and those of both sets of a pair."""
+    fields = [name for name, _ in row.value.fields] if row.value else []
+    first, second = fields if row.made == "pair" else ("0", "1")
+    return {"bits_of": {"flags": "0", "record": (fields or [""])[0]}.get(row.made, ""),
+            "pair": row.made in ("pair", "sets"), "first": first, "second": second}
+
+
 def of_row(row):
     """The marks of a row that need nothing else."""
     field, either = row.field, spelled(row.variant)
@@ -111,12 +120,12 @@ def of_row(row):
         "constructor": constructor(row.variant), "either": either, "short": either.split("_")[0],
         "value": row.value and snake(row.value.name), "word": row.value and row.value.in_specs,
         "bits": str(bits), "most": "256" if bits == 8 else f"(2 ^ {bits})", "bare": bare,
-        "set": row.made == "flags", "pair": row.made == "pair", "sets": row.made == "sets",
-        "masked": row.made in ("pair", "sets"), "simple": simple, "written": kind,
+        **made_marks(row), "simple": simple, "written": kind,
         "flag": str(row.flagged).lower(), "inner_it": snake(row.inner),
         **{f"inner_{it}": row.inner and getattr(row, f"inner_{it}") for it in
            ("spec", "module", "crate")},
-        "made_from": row.made == "flags" or row.numbered, "variable": row.layout.variable,
+        "made_from": row.made in ("flags", "record") or row.numbered,
+        "variable": row.layout.variable,
         "condition": row.layout.condition,
         "said": (simple or bool(own)) and row.layout.condition,
         "owning": row.shape in OWNING,
@@ -138,8 +147,8 @@ def numbers(family):
     """The imports of value types, one of each module: numbers, then flag sets."""
     names, head = {}, "use Rattle.linkinfo_numbers.specs"
     for value in family.values:
-        it = snake(value.name).removeprefix("info_")
-        names.setdefault(value.module, ([], []))[value.made == "flags"].extend(
+        it = snake(value.set_of or value.name)
+        names.setdefault(value.module, ([], []))[value.made in ("flags", "pair")].extend(
             [it, f"{it}_number", f"{it}_table", f"{it}_table_holds"])
     return "".join([*(f"{head}.{module.capitalize()}.{{{', '.join(first + flags)}}}\n"
                       for module, (first, flags) in names.items()),
@@ -292,22 +301,30 @@ def custom(family, inner):
             for it, name in inside)}
 
 
+def pair_marks(row):
+    """The marks of a family that are of its row with a pair of sets, if it has one: a record, or a
+    tuple."""
+    if not row:
+        return {"both": "", "of_record": False, "of_tuple": False}
+    record, one = row.made == "pair", row.value.set_of or row.value.name
+    return {**made_marks(row), "both": row.field, "of_record": record, "of_tuple": not record,
+            "one": one, "one_of": snake(one),
+            "both_in_specs": row.field if record else f"{one} × {one}"}
+
+
 def of_family(family):
     """The marks of a family, with those of its rows as `values`."""
     variants = [variant for row in family.typed for variant in row.variants]
     is_listed = len(variants) + 1 > SEARCHED or any(row.payload for row in family.typed)
     rows, shapes = of_rows(family, is_listed), dict.fromkeys(row.shape for row in family.typed)
-    pair = next((value.name for value in family.values if value.made == "pair"), "")
-    sets = next((row.value.name for row in family.typed if row.made == "sets"), "")
+    pair = next((row for row in family.typed if row.made in ("pair", "sets")), None)
     inner = [row for row in rows if row["payload"]]
     either, entries = [row["either"] for row in rows if row["two"]], {row["entry"] for row in rows}
     plain = "plain" if inner else "rows"
-    used = {value.name for value in family.values} | {pair.removeprefix("Info")}
+    used = {value.name for value in family.values} | {value.set_of for value in family.values}
     return {
-        **vars(family), "it": family.snake, "info": family.type, "pair": pair,
+        **vars(family), "it": family.snake, "info": family.type, **pair_marks(pair),
         "alias_doc": family.alias_said[:1].upper() + family.alias_said[1:] + ".",
-        "pair_set": pair.removeprefix("Info"), "sets": sets, "masked": pair or sets and
-        f"({sets}, {sets})", "pair_flags": snake(sets or pair.removeprefix("Info")),
         "flags": pair or any(value.made == "flags" for value in family.values),
         **custom(family, inner),
         "shapes": ", ".join(shapes), "value_names": ", ".join(sorted(used - {""})),
@@ -318,6 +335,7 @@ def of_family(family):
         "derived": ", ".join(["derived_decides", *["no_field"] * bool(
             either or "no_field" in entries), "one_field", *["two_fields"] * ("pair" in entries)]),
         "has_truth": is_listed and "truth" in entries, "values": rows,
+        "not_all": not all(row["numbered"] for row in rows),
         "not_each": any(row["two"] or row["bare"] or row["simple"] and not row["said"]
                         for row in rows),
         "eithers": "".join(f"{it}, " for it in either), "are_typed": f"{family.snake}_typed" if

@@ -42,7 +42,9 @@ def listed(kind):
     if kind.is_set:
         return ", ".join(f"{it['variant']} {it['number']}" for it in kind.values)
     made = "; the number is made from a reference" * (kind.made == "reference")
-    numbers = [f"{it['number'].replace('_', '')} {it['variant']}" for it in kind.values]
+    also, _, of = kind.more.get("also", "").partition(" ")
+    numbers = [f"{it['number'].replace('_', '')} {it['variant']}" + f" or {also}" * (
+        it["variant"] == of) for it in kind.values]
     return ", ".join(numbers) + made
 
 
@@ -59,29 +61,45 @@ def type_row(kind):
     """What templates have of a type."""
     others, default = kind.more.get("others"), kind.more.get("default")
     ref, (doc, header) = "&" * (kind.made == "reference"), doc_of(kind)
-    first = kind.values[0]["name"]
+    first = kind.values[0]["name"] if kind.values else ""
     said = f": `{first}` and the others" if first else ""
+    also = kind.more.get("also", "").split()
+    fields = [{"field": name, "said": f"{text[:1].upper()}{text[1:]}."}
+              for name, text in kind.fields]
     return {
         **vars(kind), "file": camel(kind.module), "bits": str(kind.bits), "doc": doc,
-        "header": header, "number": not kind.is_set, "ref": ref, "now": ".now" * bool(ref),
+        "also": also and also[0], "also_word": also and also[0].lower(),
+        "also_of": also and also[1], "true": kind.more.get("true"),
+        "false": kind.more.get("false"), "field": fields and fields[0]["field"],
+        "header": header, "number": kind.numbered, "ref": ref, "now": ".now" * bool(ref),
         "alias": kind.more.get("alias"), "hash": ", Hash" * ("hashed" in kind.more),
         "default": default, "others": f', "{others.replace("(n)", "({})")}"' if others else "",
-        "values": [value_row(value) for value in kind.values], "listing": listing(kind),
-        "apart": pairs(["λ p. cc"] * len(kind.values), "  "), "words_hold": words_hold(kind),
+        "values": fields or [value_row(value) for value in kind.values],
+        "listing": kind.numbered and listing(kind),
+        "apart": pairs(["λ p. cc"] * len(kind.values), "  "),
+        "words_hold": kind.numbered and words_hold(kind),
         "every": "0x" + "f" * (kind.bits // 4),
+        "known": f"{sum(value.number('number') for value in kind.values):#x}",
+        "whole": kind.bits == 32, "narrow": kind.bits < 32,
+        "wide": "self.0" if kind.bits == 32 else "u32::from(self.0)",
         "other_text": f'codes "{others[:-2]}" ++ decimal n ++ codes ")"' if others else "decimal n",
         "law": f"{kind.snake.removesuffix('s')}_bits", "first_said": said,
         "page_numbers": listed(kind), "page_read": f"yes ({kind.family})" if kind.family else "no",
         "page_default": "none" if default is None else default or "empty",
-        "page_texts": ", ".join([it["word"] for it in kind.values] + [f"`{others}`" if others
-                                else "n"]) if kind.worded else "none"}
+        "page_fields": ", ".join(f"`{name}` {kind.set_of or f'u{kind.bits}'}"
+                                 for name, _ in kind.fields),
+        "page_texts": ", ".join([it["word"] for it in kind.values] + [
+            f"`{others}`" if others else "n"] * kind.numbered) if kind.worded else "none"}
 
 
 def text(kind, prefix=""):
     """A type in code, or with a prefix in specs."""
-    has = {"number": not kind.is_set, "display": kind.worded, "words": kind.family,
-           "default": not kind.is_set and "default" in kind.more, "set": kind.is_set,
-           "empty": kind.is_set and "default" in kind.more, "equal": True}
+    has = {"number": kind.numbered, "also": "also" in kind.more, "truth": "true" in kind.more,
+           "display": kind.numbered and kind.worded, "words": kind.numbered and kind.family,
+           "default": kind.numbered and "default" in kind.more, "set": kind.is_set,
+           "set display": kind.is_set and kind.worded, "set words": kind.is_set and kind.family,
+           "empty": kind.is_set and "default" in kind.more, "record": kind.made == "record",
+           "pair": kind.made == "pair", "equal": True}
     found = sections("number_types")
     return "".join(put_in(found[prefix + name], type_row(kind)) for name in has
                    if has[name] and prefix + name in found)
@@ -112,19 +130,25 @@ def names(kinds, others=True):
 def laws(kinds):
     """The definitions that the laws of types name."""
     return ", ".join(kind.snake + end for kind in kinds for end in (
-        [""] if kind.is_set else ["", "_number", "_table", *["_text"] * bool(kind.family)]))
+        ["", "_number", "_table", *["_text"] * bool(kind.family)] if kind.numbered else
+        ["", *["_words"] * bool(kind.family)] if kind.is_set else []))
 
 
 def selections(groups):
     """The selections of templates/places that are of number types and flag sets."""
     kinds = [kind for group in groups for kind in group.written]
-    sets, plain = ([type_row(it) for it in kinds if it.is_set is sort] for sort in (True, False))
+    sets = [type_row(it) for it in kinds if it.is_set]
+    plain = [type_row(it) for it in kinds if it.numbered]
     found = {
         "groups": [{"module": group.module, "file": camel(group.module),
-                    "types": names(group.types), "written": names(group.written, False),
-                    "laws": laws(group.written)} for group in groups],
+                    "types": names(group.types), "laws": laws(group.written), "written": names(
+                        [it for it in group.written if not it.fields], False)}
+                   for group in groups],
         "all types": [{"types": names([it for group in groups for it in group.types])}],
         "number types": plain, "word types": [row for row in plain if row["family"]],
-        "flag sets": sets, "hashed types": [row for row in plain + sets if row["hash"]],
-        "number page": [{"values": plain}], "flag page": [{"values": sets}]}
+        "flag sets": sets, "worded sets": [row for row in sets if row["family"]],
+        "hashed types": [row for row in plain + sets if row["hash"]],
+        "number page": [{"values": plain}], "also types": [it for it in plain if it["also"]],
+        "record page": [{"values": [type_row(it) for group in groups for it in group.types
+                                    if it.fields]}], "flag page": [{"values": sets}]}
     return {name: [({}, rows)] for name, rows in found.items()}

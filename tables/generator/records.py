@@ -7,7 +7,7 @@ import re
 from . import form
 from .parts import Part, Whole
 from .places import put_in, sections
-from .text import CALL, MOST, broken, is_pair, laid, snake, tidy
+from .text import CALL, MOST, broken, fitting, is_pair, laid, snake, tidy
 
 CRATE = "crates/linkinfo_payloads"
 HEAD = re.compile(r"(\w+)  +(\w+)")
@@ -41,6 +41,14 @@ def path_of(node, path):
     if not is_pair(node):
         return [(node[1], path)]
     return path_of(node[0], f"{path}.0") + path_of(node[1], f"{path}.1")
+
+
+def take_apart(names):
+    """The statement that takes the fields apart, as rustfmt breaks it."""
+    start, line = " " * 8 + "let", laid(names)
+    pattern = broken(names, " " * 8, " " * 4, MOST - len("let  = fields;"))
+    return fitting(f"{start} {line} = fields;", f"{start} {line} =\n{' ' * 12}fields;",
+                   f"{start} {pattern} = fields;")
 
 
 class Record:
@@ -88,7 +96,7 @@ class Record:
                 "short": len(given) <= LITERAL and given, "long": len(given) > LITERAL,
                 "fields": broken(made(kinds), " " * 4, " " * 4, MOST - len("type Fields = ;"),
                                  CALL),
-                "pattern": broken(made(names), " " * 8, " " * 4, MOST - len("let  = fields;")),
+                "take_apart": take_apart(made(names)),
                 "taken": broken(made(taken), " " * 8, " " * 4, MOST, CALL),
                 "types": laid(made([it[3] for it in layouts]), " × ", ("", "")),
                 "layout": laid(made([it[4] for it in layouts]), " ⨾ ", ("", "")),

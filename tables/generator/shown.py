@@ -2,11 +2,11 @@
 the stored lines that the program rejects or accepts by a row (gate/lines/rows.in and rows.out)."""
 from .lists import constant_parts, either, whole
 from .parts import Part, Whole
-from .places import put_in, sections
+from .places import parts as parts_of, put_in, sections
 from .text import fill, listed, snake
 
 PARTS = {"Word": "Words", "List": "Elements", "Nested": "Family", **dict.fromkeys(
-    ["Bits", "Mask", "Names", "Options", "SecondNames"], "Flags")}
+    ["Bits", "FlagNames", "Mask", "Names", "Options", "SecondNames"], "Flags")}
 
 
 def views(family):
@@ -89,6 +89,14 @@ def lines(family, kind):
             yield f"check {data.hex()}", said
 
 
+def others(tables):
+    """The kinds that `InfoKind` does not name and whose data has rows."""
+    named = {kind.name for kind in tables.kinds}
+    return [{"kind": kind, "family": it.name} for it in tables.layered
+            if not it.inner and not it.links.startswith("ports of ")
+            for kind in it.kinds if kind not in named]
+
+
 def outputs(tables):
     """The rows to show, the pages, and the lines."""
     parts, coded = sections("lists"), {row["family"] for row in tables.coded}
@@ -98,6 +106,7 @@ def outputs(tables):
     named = [{**vars(it), "arm": either(it.families)} for it in shown_in if it.name in coded]
     yield from constant_parts("linkinfo_view", "table", named, [it["constant"] for it in found],
                               of="family_rows", call="lines", without="")
+    yield from parts_of("others", {"others": [({}, [{"values": others(tables)}])]})
     count = f"{sum(len(it['values']) for it in found)} rows in {len(found)} tables.\n\n"
     yield Part("docs/SHOW.md", "families", count + "".join(
         put_in(parts["page of a view"], it) for it in found))

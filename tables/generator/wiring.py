@@ -2,8 +2,11 @@
 import re
 
 from . import kinds, number_types, places
+from .marks import of_family
+from .shown import others
 from .text import fill, listed, snake
 
+LIST_KINDS = 512        # what the code of a list exceeds that of its family by
 DATA = {"data": "data (`IFLA_INFO_DATA`)", "port data": "port data (`IFLA_INFO_SLAVE_DATA`)"}
 
 
@@ -14,13 +17,15 @@ def group_row(group):
     return {"Group": group, "group": group.lower(), "of": crate, "groups": files,
             "specs": f"{files.removesuffix('s').capitalize()}Data",
             "given": {"Lower": "layer", "Peered": "t peer"}.get(group, "t"),
+            "holding": {"Lower": "layer each", "Peered": "types peer each"}.get(group, "types"),
             "flagged": "h " * (group == "Tunnel")}
 
 
 def coded(rows):
-    """The families of rows of tables/families."""
+    """The families of rows of tables/families. Lists of one in others have a code of their own."""
     return [{"family": row["family"], "name": row["family"].lower(), "NAME": row["family"].upper(),
-             "code": row["code"], "doc": f"{row['what'][:1].upper()}" + re.sub(
+             "code": row["code"], "list_code": str(int(row["code"]) + LIST_KINDS),
+             "doc": f"{row['what'][:1].upper()}" + re.sub(
                  "port data|data", lambda mark: DATA[mark[0]], row["what"][1:]) + "."}
             for row in rows]
 
@@ -95,6 +100,33 @@ def typed(rows):
     return [{**rows[0], "types": ", ".join(sorted({row["holder"] for row in rows}))}]
 
 
+def returned(row):
+    """That the errors in a payload of a row have causes that C returns."""
+    if row["inner"]:
+        return f"nested_errors family.{row['inner']} _ {row['inner_it']}_rows q"
+    which = "addresses" if row["shape"] in ("V4List", "V6List") else "exact"
+    return f"{which}_errors {row['shape']} tt {row['codec']} {row['own']}_payload q"
+
+
+def layered(tables):
+    """The selections that are of the families of the typed layer, and of the lists in their data.
+    Data of a kind that `InfoKind` does not name is bytes, so that no layer has its family."""
+    without = {row["family"] for row in others(tables)}
+    rows = [{**marks, "form": "nesting" * marks["nested"], "values": [
+        {**row, "returned": returned(row)} for row in marks["values"] if row["payload"]]}
+        for marks in map(of_family, (it for it in tables.layered if it.name not in without))]
+    for row in rows:
+        its = [f"{row['it']}_plain", *row["suffixes"].split(", ")[1:]] if row["nested"] else []
+        row["used"] = ", ".join([*its, f"{row['it']}_rows"])
+    codecs = sorted({f"{row['own']}_{end}" for marks in rows for row in marks["values"]
+                     if row["own"] for end in ("codec", "payload")})
+    return {"layered": rows, "nesting": [row for row in rows if row["nested"]],
+            "outer": [row for row in rows if not row["is_inner"]],
+            "codecs": [{"codecs": ", ".join(codecs)}],
+            "lists": coded(row for row in tables.coded if row["family"] in {
+                family.name for family in tables.layered if family.inner})}
+
+
 def of_kinds(tables, ports, variants):
     """The selections that are of kinds, port kinds, or families by C's code."""
     rows = [kinds.row_of(kind) for kind in tables.kinds]
@@ -130,6 +162,7 @@ def outputs(tables):
                        if row in listed_in and row["form"] != "twin"]}
     return list(places.parts("places", {
         **{name: [({}, given)] for name, given in found.items()},
+        **{name: [({}, given)] for name, given in layered(tables).items()},
         **number_types.selections(tables.numbers),
         "group": [(group[0], group) for group in groups],
         "inside": [(group[0], group) for group in groups

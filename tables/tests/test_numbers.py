@@ -39,8 +39,14 @@ BAD = [
     ("numbers/vxlan", "inner packet\n", "inner packet\n\n",
      "numbers/vxlan:9: no types, or an empty line at the end"),
     ("numbers/vxlan", "VxlanDf  u8", "AmtMode  u8", "numbers/vxlan:3: AmtMode is there twice"),
-    ("numbers/rmnet", "by hand, pair, ", "pair, ",
-     "numbers/rmnet:16: InfoRmNetFlags has no doc comment, or no values"),
+    ("numbers/vxlan", "df_values", "df_values  true Set",
+     "numbers/vxlan:3: a value for true without one for false, or the other way round"),
+    ("numbers/rmnet", "    mask   the flags to change, little-endian\n", "",
+     "numbers/rmnet:16: InfoRmNetFlags has 1 fields, and not 2"),
+    ("numbers/can", "    freq  the frequency, in hertz\n", "",
+     "numbers/can:46: CanClock has 0 fields, and not 1"),
+    ("numbers/bond", "as LacpState,", "as LacpStat,",
+     "numbers/bond:109: no type LacpStat of at most this width, or values too"),
     ("kinds", "3     ifb ", "2     ifb ", "kinds:5: code 2 is after code 2"),
     ("kinds", "3     ifb ", "x     ifb ", "kinds:5: x is no number"),
     ("kinds", "3     ifb  ", "3     dummy", "kinds:5: dummy is there twice"),
@@ -110,6 +116,31 @@ BazFlags  u16  flags  -  hashed
     The flags of a baz link, a little-endian number; include/uapi/linux/baz.h
     1  BAZ_A  NoA  -  no A
 """, encoding="utf-8")
+        (self.root / "tables/numbers/qux").write_text("""# Qux links
+
+QuxSwitch  u8  switch  switches  true On, false Off, also Lit On
+    Whether a qux link shines, one byte
+    0  QUX_OFF  Off  -  it is dark
+    1  QUX_ON   On   -  it is lit
+
+QuxSet  u16  flags  -  words of Vxlan, default
+    The colors of a qux link, a little-endian number
+    0x1  QUX_RED   Red   red   it is red
+    0x4  QUX_BLUE  Blue  blue  it is blue
+
+QuxWide  u32  flags  -  words of Vxlan, as QuxSet
+    The same colors in four bytes
+
+QuxColors  u32  colors  -  pair of QuxWide
+    The colors to change, and the colors
+    mask   those to change
+    value  those that
+          are on
+
+QuxClock  u32  clock  -  record
+    The clock of a qux link
+    rate  its rate, in hertz
+""", encoding="utf-8")
 
     def test_the_module(self):
         found = {it.path: it.text for it in number_types.outputs(tables.Tables(self.root))}
@@ -134,6 +165,31 @@ BazFlags  u16  flags  -  hashed
                      "use Rattle.std.specs.Prelude.{◌≡◌, ℕ, List, [], ◌∷◌, codes, Result, refl}\n"):
             self.assertIn(text, specs)
 
+    def test_words_and_records(self):
+        """A switch, another name, sets with words of which one has those of another, and records
+        of a pair of sets and of one number."""
+        found = {it.path: it.text for it in number_types.outputs(tables.Tables(self.root))}
+        code = found["crates/linkinfo_numbers/src/qux.rt"]
+        for text in (
+                "impl From<bool> for QuxSwitch {\n",
+                "        if truth { QuxSwitch::On } else { QuxSwitch::Off }\n",
+                "    /// Another name of `On`.\n    pub const Lit: QuxSwitch = QuxSwitch::On;\n",
+                '        (0x4, "blue"),\n    ];\n', "            bits: u32::from(self.0),\n",
+                "            known: 0x5,\n", "        match u16::try_from(bits) {\n",
+                "    pub const Blue: QuxWide = QuxWide(0x4);\n",
+                "            Some(bits) => Ok(QuxWide(bits)),\n",
+                "    /// Those to change.\n    pub mask: QuxWide,\n"
+                "    /// Those that are on.\n    pub value: QuxWide,\n}\n",
+                "    /// Its rate, in hertz.\n    pub rate: u32,\n}\n",
+                "        QuxClock { rate }\n", "        clock.rate\n"):
+            self.assertIn(text, code)
+        specs = found["crates/linkinfo_numbers/specs/Qux.antt"]
+        for text in ("qux_switch_of_bool true = switch.On\n", '    (0x1, codes "red") ∷\n',
+                     "qux_wide_text bits = set_text qux_wide_words 0x5 bits\n",
+                     "= set_if family.Vxlan 16 qux_set (text_bits qux_set_words text)\n",
+                     "qux_clock n = record { rate = n }\n"):
+            self.assertIn(text, specs)
+
     def test_its_laws_and_pages(self):
         found, laws = self.parts(), "crates/linkinfo_numbers/src/laws.rt"
         for path, name, text in (
@@ -148,7 +204,18 @@ BazFlags  u16  flags  -  hashed
                 ("crates/linkinfo_numbers/specs/Lib.antt", "numbers", "pub mod Baz\n"),
                 ("docs/FORMAT.md", "numbers",
                  "| BazMode u16 | 0 Off, 0x100 On | off, on, n | yes (Vxlan) | On |\n"),
-                ("docs/FORMAT.md", "numbers (flag sets)", "| BazFlags u16 | NoA 1 | none |\n")):
+                (laws, "numbers (types)", "use crate::qux::{QuxSet, QuxSwitch, QuxWide};\n"),
+                (laws, "numbers (of other names)",
+                 "    ensures qux_switch_lit { QuxSwitch.Lit ≡ QuxSwitch.On }\n"),
+                (laws, "numbers (of flag words)",
+                 "    ensures qux_wide { ReadsFlags qux_wide_words 0x5 }\n"),
+                ("docs/FORMAT.md", "numbers", "| QuxSwitch u8 | 0 Off, 1 On or Lit |"),
+                ("docs/FORMAT.md", "numbers (flag sets)",
+                 "| QuxSet u16 | Red 0x1, Blue 0x4 | red, blue | yes (Vxlan) | empty |\n"),
+                ("docs/FORMAT.md", "numbers (records)",
+                 "| `QuxColors` | `mask` QuxWide, `value` QuxWide |\n"),
+                ("docs/FORMAT.md", "numbers (flag sets)",
+                 "| BazFlags u16 | NoA 1 | none | no | none |\n")):
             with self.subTest(name):
                 self.assertIn(text, found[path, name])
 
@@ -166,7 +233,7 @@ class Kinds(Copy):
     def setUp(self):
         super().setUp()
         for name, line in (("kinds", "48    baz  Baz  Tunnel Baz  a baz link\n"),
-                           ("families", "44    Baz  baz  the data of `baz` links\n")):
+                           ("families", "46    Baz  baz  the data of `baz` links\n")):
             with (self.root / "tables" / name).open("a", encoding="utf-8") as table:
                 table.write(line)
         (self.root / "tables/baz").write_text("""# Baz links
@@ -190,7 +257,7 @@ type  name  variant  layout  member  shown as
                 ("crates/linkinfo_numbers/src/tags.rt", "kinds (tags of three bytes)",
                  "        BAZ => KindTag::Baz,\n"),
                 ("crates/linkinfo_c/src/codes.rt", "kinds", "            Baz = 48,\n"),
-                ("crates/linkinfo_c/src/codes.rt", "families", "            Baz = 44,\n"),
+                ("crates/linkinfo_c/src/codes.rt", "families", "            Baz = 46,\n"),
                 ("c/linkinfo.h", "kinds",
                  "  LINKINFO_KIND_RMNET = 47,\n  LINKINFO_KIND_BAZ = 48\n"),
                 (f"{data}/src/tunnels.rt", "kinds (calls)",
@@ -208,11 +275,11 @@ type  name  variant  layout  member  shown as
                 (f"{data}/specs/FamiliesLawful.antt", "kinds (laws)", "\n-- ---- baz\n\n"
                  "pub baz_is : IsFamily plain.baz\n"),
                 ("crates/linkinfo_c/proofs/CausingData.antt", "kinds (tunnel)",
-                 "tunnels_errors tunnel.Baz h p =\n"),
+                 "tunnels_errors types tunnel.Baz h p =\n"),
                 ("docs/FORMAT.md", "kinds", "| `baz` | Baz | Baz | Baz |\n"),
-                ("docs/FORMAT.md", "families (names)", "CanPwm, Baz.\n"),
+                ("docs/FORMAT.md", "families (names)", "CanPwm, Ovpn, Ppp, Baz.\n"),
                 ("c/tests/calls.c", "kinds",
-                 "enum { LAST_FAMILY = 44, LAST_KIND = 48, LAST_PORT_KIND = 260 };\n")):
+                 "enum { LAST_FAMILY = 46, LAST_KIND = 48, LAST_PORT_KIND = 260 };\n")):
             with self.subTest(f"{path} {name}"):
                 self.assertIn(text, found[path, name])
 

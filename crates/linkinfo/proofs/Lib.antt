@@ -1,4 +1,5 @@
 pub mod Differences
+pub mod Elsewhere
 pub mod Ending
 pub mod Items
 pub mod Listing

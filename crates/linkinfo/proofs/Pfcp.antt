@@ -1,9 +1,7 @@
 -- What changed when `pfcp` gained a family: byte strings with data under it, and no others.
 use Rattle.std.specs.Prelude.{
   ◌≡◌,
-  ◌==◌,
   ℕ,
-  ◌&&◌,
   Bool,
   true,
   false,
@@ -18,7 +16,7 @@ use Rattle.std.specs.Prelude.{
   refl,
 }
 use Rattle.std.proofs.Common.{sym, ap, subst, ◌∙◌}
-use Rattle.std.proofs.lemmas.Bool.{and_parts, eq-eqb, eqb-true}
+use Rattle.std.proofs.lemmas.Bool.{and_parts, eqb-true}
 use Rattle.nla_frame.specs.Attribute.{Attribute, masked}
 use Rattle.nla_frame.specs.declared.error.DecodeError.{DecodeError}
 use Rattle.nla_frame.specs.declared.error.Family.TheVariants as family
@@ -40,8 +38,8 @@ use Rattle.linkinfo.specs.BeforePfcp.{
   meaning_before,
   alike_before,
   is_pfcp_data,
-  NoneIsPfcpData,
 }
+use Rattle.linkinfo.specs.Elsewhere.{NoneHas}
 use Rattle.linkinfo.specs.Items.{data_row, link_alike, link_meaning, link_other, link_row}
 use Rattle.linkinfo.specs.Roles.{role_at}
 use Rattle.linkinfo.specs.Strings.{next_kinds, values_from, alike_from}
@@ -49,6 +47,10 @@ use Rattle.linkinfo.specs.Layered.{LinkOf}
 use Rattle.linkinfo.specs.declared.role.CurrentKinds.{CurrentKinds}
 use Rattle.linkinfo.specs.declared.role.Role.{Role}
 use Rattle.linkinfo.specs.declared.role.Role.TheVariants as role
+use Rattle.linkinfo.proofs.Elsewhere.{
+  alike_first as first_elsewhere,
+  alike_second as second_elsewhere,
+}
 use Rattle.linkinfo.proofs.Items.{link_alike_after, role_alike_after, same_role}
 use Rattle.linkinfo.proofs.Steps.{meaning_is}
 
@@ -145,7 +147,8 @@ module _ {T : Types} (families : Families T) where
       link_meaning layer t a ≡ meaning_before layer t a
   means_same t a e = meaning_is layer t a (role_at t a) refl ∙ role_means (role_at t a) a e
 
-  pub read_before : (t : CurrentKinds) (ps : List (Result Attribute ℕ)) → NoneIsPfcpData t ps →
+  pub read_before : (t : CurrentKinds) (ps : List (Result Attribute ℕ)) →
+      NoneHas is_pfcp_data t ps →
       values_from layer t ps ≡ values_under (meaning_before layer) next_kinds t ps
   read_before t [] e = refl
   read_before t ((Err n) ∷ more) e = refl
@@ -164,21 +167,11 @@ module _ {T : Types} (families : Families T) where
       link_alike layer t a b ≡ alike_before layer t a b
   alike_same t a b e = link_alike_is t a b ∙ role_alike (role_at t a) a b e
 
-  pub alike_first : (t : CurrentKinds) (ps qs : List (Result Attribute ℕ)) → NoneIsPfcpData t ps →
+  pub alike_first : (t : CurrentKinds) (ps qs : List (Result Attribute ℕ)) →
+      NoneHas is_pfcp_data t ps →
       alike_from layer t ps qs ≡ alike_under (alike_before layer) next_kinds t ps qs
-  alike_first t [] [] e = refl
-  alike_first t [] (q ∷ qs) e = refl
-  alike_first t (p ∷ ps) [] e = alike_none p ps e
-    where
-      alike_none : (p : Result Attribute ℕ) (ps : List (Result Attribute ℕ)) →
-          NoneIsPfcpData t (p ∷ ps) →
-          alike_from layer t (p ∷ ps) [] ≡ alike_under (alike_before layer) next_kinds t (p ∷ ps) []
-      alike_none p ps e = refl
-  alike_first t ((Ok a) ∷ ps) ((Ok b) ∷ qs) e =
-      ap (λ (h : Bool). h && alike_from layer (next_kinds t a) ps qs) (alike_same t a b e.0)
-      ∙ ap (λ (h : Bool). alike_before layer t a b && h) (alike_first (next_kinds t a) ps qs e.1)
-  alike_first t ((Ok a) ∷ ps) ((Err n) ∷ qs) e = refl
-  alike_first t ((Err n) ∷ ps) (q ∷ qs) e = refl
+  alike_first t ps qs none =
+      first_elsewhere is_pfcp_data (link_alike layer) (alike_before layer) alike_same t ps qs none
 
   -- equivalent attributes had one type before too, so data under `pfcp` as the second attribute
   -- changes nothing
@@ -192,49 +185,16 @@ module _ {T : Types} (families : Families T) where
   before_typed role.Misplaced t a b h = (role_alike_after layer role.Misplaced t a b h).0
   before_typed role.Unknown t a b h = (role_alike_after layer role.Unknown t a b h).0
 
-  neither : (x y : Bool) → (x ≡ true → ⊥) → (y ≡ true → ⊥) → x ≡ y
-  neither true y h k = absurd (h refl)
-  neither false true h k = absurd (k refl)
-  neither false false h k = refl
+  now_typed : (t : CurrentKinds) (a b : Attribute) → link_alike layer t a b ≡ true →
+      masked b.kind ≡ masked a.kind
+  now_typed t a b h =
+      (role_alike_after layer (role_at t a) t a b (sym (link_alike_is t a b) ∙ h)).0
 
-  differ : (m n : ℕ) → (m == n) ≡ false → m ≡ n → ⊥
-  differ m n h k = absurd (false_true (sym h ∙ eq-eqb m n k))
-    where
-      false_true : (let f : Bool = false in f ≡ true) → ⊥
-      false_true e = absurd cc
-
-  alike_same_second : (t : CurrentKinds) (a b : Attribute) → is_pfcp_data (role_at t b) ≡ false →
-      link_alike layer t a b ≡ alike_before layer t a b
-  alike_same_second t a b e = go (masked b.kind == masked a.kind) refl
-    where
-      go : (s : Bool) → (masked b.kind == masked a.kind) ≡ s →
-          link_alike layer t a b ≡ alike_before layer t a b
-      go true h =
-          alike_same t a b (ap is_pfcp_data (sym (same_role layer t a b (eqb-true _ _ h))) ∙ e)
-      go false h =
-          let apart : masked b.kind ≡ masked a.kind → ⊥ = λ k. differ _ _ h k in
-          neither (link_alike layer t a b) (alike_before layer t a b)
-          (λ k. apart (role_alike_after layer (role_at t a) t a b
-          (sym (link_alike_is t a b) ∙ k)).0)
-          (λ k. apart (before_typed (role_at t a) t a b k))
-
-  where_true : (s x y : Bool) → (s ≡ true → x ≡ y) → (s && x) ≡ (s && y)
-  where_true false x y e = refl
-  where_true true x y e = e refl
-
-  pub alike_second : (t : CurrentKinds) (ps qs : List (Result Attribute ℕ)) → NoneIsPfcpData t qs →
+  pub alike_second : (t : CurrentKinds) (ps qs : List (Result Attribute ℕ)) →
+      NoneHas is_pfcp_data t qs →
       alike_from layer t ps qs ≡ alike_under (alike_before layer) next_kinds t ps qs
-  alike_second t [] [] e = refl
-  alike_second t [] (q ∷ qs) e = refl
-  alike_second t ((Ok a) ∷ ps) [] e = refl
-  alike_second t ((Err n) ∷ ps) [] e = refl
-  alike_second t ((Ok a) ∷ ps) ((Ok b) ∷ qs) e =
-      ap (λ (h : Bool). h && alike_from layer (next_kinds t a) ps qs) (alike_same_second t a b e.0)
-      ∙ where_true (alike_before layer t a b) (alike_from layer (next_kinds t a) ps qs)
-      (alike_under (alike_before layer) next_kinds (next_kinds t a) ps qs)
-      (λ h.
-      let same = link_alike_after layer t a b (alike_same_second t a b e.0 ∙ h) in
-      alike_second (next_kinds t a) ps qs
-      (subst (λ (u : CurrentKinds). NoneIsPfcpData u qs) (sym same) e.1))
-  alike_second t ((Ok a) ∷ ps) ((Err n) ∷ qs) e = refl
-  alike_second t ((Err n) ∷ ps) (q ∷ qs) e = refl
+  alike_second t ps qs none =
+      second_elsewhere is_pfcp_data (link_alike layer) (alike_before layer) alike_same
+      now_typed
+      (λ u a b h. before_typed (role_at u a) u a b h) (same_role layer) (link_alike_after layer) t
+      ps qs none

@@ -104,7 +104,7 @@ module _ {L : DataTypes} (layer : DataFamilies L) where
   unfolding headers_inside
   headers_is t a r e = ap (λ (s : Role). row_headers (link_row layer s) a) (sym e)
 
-  memory_is : (t : CurrentKinds) (a : Attribute) (r : Role) → r ≡ role_at t a →
+  pub memory_is : (t : CurrentKinds) (a : Attribute) (r : Role) → r ≡ role_at t a →
       link_needs_memory layer t a ≡ row_needs_memory (link_row layer r) a
   unfolding memory_in
   memory_is t a r e = ap (λ (s : Role). row_needs_memory (link_row layer s) a) (sym e)

@@ -7,11 +7,8 @@ use Rattle.std.specs.Prelude.{
   false,
   if◌then◌else◌,
   List,
-  [],
-  ◌∷◌,
   Result,
   Ok,
-  Err,
 }
 use Rattle.nla_frame.specs.Attribute.{Attribute}
 use Rattle.nla_frame.specs.NlaItems.{nla_items}
@@ -27,6 +24,7 @@ use Rattle.linkinfo_table.specs.Lists.{values_under, alike_under}
 use Rattle.linkinfo_table.specs.Rows.{Row, row_alike, row_meaning}
 use Rattle.linkinfo.specs.Items.{data_row, link_other, link_row}
 use Rattle.linkinfo.specs.Roles.{no_kinds, role_at}
+use Rattle.linkinfo.specs.Elsewhere.{NoneHas}
 use Rattle.linkinfo.specs.Strings.{next_kinds}
 use Rattle.linkinfo.specs.Layered.{LinkOf}
 use Rattle.linkinfo.specs.declared.role.CurrentKinds.{CurrentKinds}
@@ -70,13 +68,6 @@ abbrev pub is_pfcp_data : Role → Bool
 is_pfcp_data (role.Data t) = is_pfcp t
 is_pfcp_data _ = false
 
--- no attribute is data under `pfcp`, under the current kinds that the attributes before it leave
-abbrev pub NoneIsPfcpData : CurrentKinds → List (Result Attribute ℕ) → Type 0
-NoneIsPfcpData t [] = Unit {0}
-NoneIsPfcpData t ((Err n) ∷ more) = Unit {0}
-NoneIsPfcpData t ((Ok a) ∷ more) =
-    (is_pfcp_data (role_at t a) ≡ false) × NoneIsPfcpData (next_kinds t a) more
-
 -- the byte string has no data under `pfcp`
 unfoldable pub HasNoPfcpData : List ℕ → Type 0
-HasNoPfcpData s = NoneIsPfcpData no_kinds (nla_items s)
+HasNoPfcpData s = NoneHas is_pfcp_data no_kinds (nla_items s)

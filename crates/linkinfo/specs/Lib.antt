@@ -3,6 +3,7 @@ pub mod Canon
 pub mod Comparing
 pub mod Conditions
 pub mod Difference
+pub mod Elsewhere
 pub mod Items
 pub mod OneType
 pub mod Layered

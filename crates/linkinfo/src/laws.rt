@@ -65,6 +65,7 @@ ghost use Rattle.linkinfo.specs.declared.xstats.LinkXstats.{LinkXstats};
 ghost use Rattle.nla_frame.specs.declared.default_nla.DefaultNla.{DefaultNla};
 ghost use Rattle.linkinfo.specs.declared.role.Role.{Role};
 ghost use Rattle.linkinfo.specs.Difference.{strings_difference};
+ghost use Rattle.linkinfo.specs.Elsewhere.{AnswerAlike, HasNoSuppliedData};
 ghost use Rattle.linkinfo.specs.Items.{link_meaning, link_other, link_well};
 ghost use Rattle.linkinfo.specs.Layered.{LinkList, Links};
 ghost use Rattle.linkinfo.specs.Roles.{no_kinds, role_at};
@@ -195,6 +196,37 @@ pub fn typed_refined(bytes: &[u8])
         strings_unmet typed_layer bytes.now want ≡ None }
 {
     refined::<Typed<Bytes>>(bytes);
+}
+
+/// What the lists of two layers of one peer have in common of a byte string without data of a
+/// family that the first one supplies (`HasNoSuppliedData`): every answer (`AnswerAlike`). Both
+/// accept it, or reject it with the same error, after as many headers. It is equivalent to the same
+/// byte strings, has the same first difference from each, and each leaves the same attribute of it
+/// unmet.
+pub fn elsewhere<L: LinkLayer>(bytes: &[u8])
+where
+    L::Bond: Supplied,
+    L::Bridge: Supplied,
+    L::Vlan: Supplied,
+    L::Can: Supplied,
+    L::Hsr: Supplied,
+    L::Dsa: Supplied,
+    L::Tun: Supplied,
+    L::BondPort: Supplied,
+    L::BridgePort: Supplied,
+    ensures { let families = ⟦<L as LayerFamilies>⟧.families in
+        HasNoSuppliedData bytes.now →
+        AnswerAlike (data_families families) (data_families (peer_families families.peer))
+        bytes.now }
+{}
+
+/// What the calls of `typed` answer for a byte string without data of bond, bridge, vlan, can, hsr,
+/// dsa and tun links, and of ports of bond and bridge links: what those of the root do, as
+/// `elsewhere` says of layers.
+pub fn typed_elsewhere(bytes: &[u8])
+    ensures { HasNoSuppliedData bytes.now → AnswerAlike typed_layer bytes_layer bytes.now }
+{
+    elsewhere::<Typed<Bytes>>(bytes);
 }
 
 /// What changed when `pfcp` gained a family. Before, data under `pfcp`, and under no other kind

@@ -29,7 +29,7 @@ pub use canonical_into::{CanonIntoError, canon_into, canon_into_of};
 pub use difference::{first_difference, first_difference_of};
 pub use link_info::{LinkInfo, LinkInfoOf};
 pub use linkinfo_data::{InfoData, InfoDataOf, InfoPortData, InfoPortDataOf};
-pub use linkinfo_names::{Explanation, attribute_name};
+pub use linkinfo_names::{AttributeUse, Explanation, attribute_name, attribute_use};
 pub use linkinfo_numbers::{
     IFLA_INFO_DATA, IFLA_INFO_KIND, IFLA_INFO_SLAVE_DATA, IFLA_INFO_SLAVE_KIND, IFLA_INFO_XSTATS,
     InfoKind, InfoPortKind, KindTag, PortTag, port_tag_of_name, tag_of_name,
@@ -62,14 +62,14 @@ pub use linkinfo_devices::{InfoIpVlanOf, InfoVrfPort};
 pub use linkinfo_numbers::{
     AmtMode, BondAdSelect, BondAllPortActive, BondArpAllTargets, BondArpValidate, BondFailOverMac,
     BondLacpRate, BondMode, BondPortState, BondPrimaryReselect, BondXmitHashPolicy,
-    BridgeBooleanOptionFlags, BridgeMulticastRouterType, BridgePortState, BridgeStpMode,
-    BridgeStpState, CanCtrlModeFlags, CanState, ChurnState, ErSpanDir, EthernetProtocol, GeneveDf,
-    GreEncapFlags, GreEncapType, GreIOFlags, GtpRole, HsrProtocol, InfoRmNetFlags, Ip6TunnelFlags,
-    IpProtocol, IpVlanFlags, IpVlanMode, IpVtapFlags, IpVtapMode, IpoibMode, LacpState,
-    LacpState16, MacSecCipherId, MacSecOffload, MacSecValidate, MacVlanFlags,
-    MacVlanMacAddressMode, MacVlanMode, MacVtapFlags, MacVtapMacAddressMode, MacVtapMode,
-    MiiStatus, NetkitMode, NetkitPolicy, NetkitScrub, OnOff, RmNetFlags, TunType, TunnelEncapFlags,
-    TunnelEncapType, VlanFlags, VlanProtocol, VxlanDf,
+    BridgeBooleanOptionFlags, BridgeBooleanOptions, BridgeMulticastRouterType, BridgePortState,
+    BridgeStpMode, BridgeStpState, CanClock, CanCtrlMode, CanCtrlModeFlags, CanState, ChurnState,
+    ErSpanDir, EthernetProtocol, GeneveDf, GreEncapFlags, GreEncapType, GreIOFlags, GtpRole,
+    HsrProtocol, InfoRmNetFlags, Ip6TunnelFlags, IpProtocol, IpVlanFlags, IpVlanMode, IpVtapFlags,
+    IpVtapMode, IpoibMode, LacpState, LacpState16, MacSecCipherId, MacSecOffload, MacSecValidate,
+    MacVlanFlags, MacVlanMacAddressMode, MacVlanMode, MacVtapFlags, MacVtapMacAddressMode,
+    MacVtapMode, MiiStatus, NetkitMode, NetkitPolicy, NetkitScrub, OnOff, OvpnMode, RmNetFlags,
+    TunType, TunnelEncapFlags, TunnelEncapType, VlanFlags, VlanProtocol, VxlanDf,
 };
 // End: written by tables/generate.
 // Begin: written by tables/generate from tables/kinds (peered).

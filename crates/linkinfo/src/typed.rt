@@ -57,7 +57,8 @@ pub use linkinfo_payloads::{
 };
 pub use linkinfo_typed::{
     BondAdInfo, BridgeQuerierState, CanCtrlModeExt, CanPwm, CanTdc, InfoBond, InfoBondPort,
-    InfoBridge, InfoBridgePort, InfoCan, InfoDsa, InfoHsr, InfoTun, InfoVlan, VlanQosMapping,
+    InfoBridge, InfoBridgePort, InfoCan, InfoDsa, InfoHsr, InfoOvpn, InfoPpp, InfoTun, InfoVlan,
+    VlanQosMapping,
 };
 use nla_frame::{Bytes, DecodeError};
 use std::alloc::Global;

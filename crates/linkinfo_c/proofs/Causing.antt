@@ -236,6 +236,20 @@ first_errors {X = X} m each ((Err n) ∷ more) e h =
     subst IsReturned (ap (λ (d : DecodeError). d.cause) (bad_same {X = X} header_error e h)) tt
 first_errors m each ((Ok a) ∷ more) e h = each a e h
 
+-- a list of attributes by rows, and by one table
+pub rows_list_errors : {F : Type 0} (f : Family) (other : DefaultNla → F) (rows : ℕ → FamilyRow F) →
+    ((n : ℕ) → EachRow (rows n)) → (p : List ℕ) →
+    EachError (values (meaning_in f other (λ n. row_of (rows n))) (nla_items p))
+rows_list_errors f other rows each p =
+    list_errors (meaning_in f other (λ n. row_of (rows n)))
+    (λ a. rows_errors f other rows each a) (nla_items p)
+
+pub table_errors : {F : Type 0} (f : Family) (other : DefaultNla → F) (table : List (PlainRow F))
+    (p : List ℕ) →
+    EachError (values (meaning_in f other (λ n. row_of (table_row table n))) (nla_items p))
+table_errors f other table p =
+    rows_list_errors f other (λ n. table_row table n) (λ n. table_rows table n) p
+
 -- data as the contents of a variant
 pub variant_errors : {A X : Type 0} (label : A → X) (m : Result A DecodeError) → EachError m →
     EachError (m >>= λ a. good (label a))

@@ -1,7 +1,6 @@
--- The causes that the error of a list of link info can have: that of data, by family, and that of
--- the list itself.
+-- The causes that the error of a list of link info can have over any layer: that of data, by
+-- family, and that of the list itself.
 use Rattle.std.specs.Prelude.{
-  ◌≡◌,
   ℕ,
   ◌==◌,
   ◌-◌,
@@ -23,20 +22,20 @@ use Rattle.nla_frame.specs.Error.{cause_number}
 use Rattle.nla_frame.specs.declared.error.Cause.{Cause}
 use Rattle.nla_frame.specs.Attribute.{Attribute, masked}
 use Rattle.nla_frame.specs.NlaItems.{items_of, nla_items}
-use Rattle.nla_frame.specs.declared.bytes.Bytes.{Bytes}
-use Rattle.nla_frame.specs.declared.default_nla.DefaultNla.{DefaultNla}
 use Rattle.nla_frame.specs.declared.error.Cause.TheVariants as cause
 use Rattle.nla_frame.specs.declared.error.DecodeError.{DecodeError}
-use Rattle.nla_frame.specs.declared.error.Family.{Family}
 use Rattle.nla_frame.specs.declared.error.Family.TheVariants as family
 use Rattle.linkinfo_numbers.specs.declared.tags.KindTag.{KindTag}
 use Rattle.linkinfo_numbers.specs.declared.tags.KindTag.TheVariants as tag
 use Rattle.linkinfo_shapes.specs.declared.shape.Shape.TheVariants.{Name, Raw}
 use Rattle.linkinfo_shapes.specs.Shapes.{means}
-use Rattle.linkinfo_table.specs.Codecs.{PayloadError}
-use Rattle.linkinfo_table.specs.FamilyRows.{PlainRow, own, row_of, table_row}
+use Rattle.linkinfo_table.specs.FamilyRows.{own, table_row}
+use Rattle.linkinfo_table.specs.Layers.{Families, Types}
 use Rattle.linkinfo_table.specs.Lists.{first_meaning, values}
+use Rattle.linkinfo_table.specs.Members.{Members}
+use Rattle.linkinfo_table.specs.Peers.{peer_codec}
 use Rattle.linkinfo_table.specs.Rows.{labelled, meaning_in, row_meaning}
+use Rattle.linkinfo_table.specs.declared.peer.LinkPeer.{Ghosts}
 use Rattle.linkinfo_table.specs.SelfList.{inside}
 use Rattle.linkinfo_devices.specs.Ipvlan.{ip_vlan_rows}
 use Rattle.linkinfo_devices.specs.Macvlan.{mac_vlan_attribute, mac_vlan_plain_rows, mac_vlan_rows}
@@ -65,7 +64,6 @@ use Rattle.linkinfo_peers.specs.Batadv.{bat_adv_rows}
 use Rattle.linkinfo_peers.specs.Wwan.{wwan_rows}
 -- End: written by tables/generate.
 use Rattle.linkinfo_data.specs.Layered.{types_of}
-use Rattle.linkinfo_data.specs.BytesLayer.{bytes_families, bytes_layer}
 use Rattle.linkinfo_peers.specs.PeerMembers.{netkit_members, veth_members, vxcan_members}
 use Rattle.linkinfo_data.specs.Data.{data_of, family_of}
 use Rattle.linkinfo_data.specs.DeviceData.{devices_data_of}
@@ -91,8 +89,6 @@ use Rattle.linkinfo_data.specs.declared.port_data.PortFamily.TheVariants as port
 use Rattle.linkinfo_data.specs.declared.tunnels.TunnelFamily.{TunnelFamily}
 use Rattle.linkinfo_data.specs.declared.tunnels.TunnelFamily.TheVariants as tunnel
 use Rattle.linkinfo.specs.Comparing.{placed_answer, same_at_answer}
-use Rattle.linkinfo.specs.declared.placed.ErrorIn.{ErrorIn}
-use Rattle.linkinfo.specs.declared.placed.ErrorIn.TheVariants as error_in_one
 use Rattle.linkinfo.specs.Items.{link_meaning, link_other, link_row}
 use Rattle.linkinfo.specs.Roles.{
   item_own_error,
@@ -109,8 +105,7 @@ use Rattle.linkinfo.specs.Unmet.{unmet_answer}
 use Rattle.linkinfo.specs.Walks.{item_or_error, walk_items}
 use Rattle.linkinfo.specs.Strings.{next_kinds, reading}
 use Rattle.linkinfo.specs.Layered.{LinkOf}
-use Rattle.linkinfo_data.specs.DataFamilies.{data_types}
-use Rattle.linkinfo_data.specs.PeerLayer.{peer_types}
+use Rattle.linkinfo_data.specs.DataFamilies.{data_families, data_types}
 use Rattle.linkinfo.specs.declared.link_info.LinkInfoOf.TheVariants as link
 use Rattle.linkinfo.specs.declared.xstats.LinkXstats.TheVariants as xstats
 use Rattle.linkinfo.specs.declared.role.CurrentKinds.{CurrentKinds}
@@ -119,9 +114,10 @@ use Rattle.linkinfo.specs.declared.role.Role.TheVariants as role
 use Rattle.linkinfo_c.specs.Causes.{IsReturned, IsReturnedCode}
 use Rattle.linkinfo_c.specs.Attributes.{given_inside}
 use Rattle.linkinfo_c.specs.Difference.{difference_record}
-use Rattle.linkinfo_c.specs.Errors.{error_or_none, error_record}
+use Rattle.linkinfo_c.specs.Errors.{error_or_none, error_record, same_record}
 use Rattle.linkinfo_c.specs.Items.{error_after}
 use Rattle.linkinfo_c.specs.Unmet.{unmet_record}
+use Rattle.linkinfo_c.specs.declared.attributes.Contents.{Contents}
 use Rattle.linkinfo_c.proofs.Causing.{
   EachCause,
   EachError,
@@ -139,41 +135,50 @@ use Rattle.linkinfo_c.proofs.Causing.{
   row_if_each,
   rows_errors,
   shape_causes,
+  table_errors,
   table_rows,
   variant_errors,
 }
 
--- a list of attributes of one table
-table_errors : {F : Type 0} (f : Family) (other : DefaultNla → F) (table : List (PlainRow F))
-    (p : List ℕ) →
-    EachError (values (meaning_in f other (λ n. row_of (table_row table n))) (nla_items p))
-table_errors f other table p =
-    list_errors (meaning_in f other (λ n. row_of (table_row table n)))
-    (λ a. rows_errors f other (λ n. table_row table n) (λ n. table_rows table n) a) (nla_items p)
+-- the errors in a payload of a peer, and in lists of the attributes of the families that a layer
+-- supplies
+abbrev pub EachPeer : {P : Type 0} → Ghosts P → Type 0
+EachPeer peer = (p : List ℕ) →
+    EachPayloadError ((peer_codec peer.meaning peer.alike peer.canonical peer.well).means p)
 
-lower_errors : (f : LowerFamily) (p : List ℕ) → EachError ((lower_data_of bytes_families f).means p)
+abbrev EachMember : {X : Type 0} → Members X → Type 0
+EachMember m = (p : List ℕ) → EachError (values m.meaning (nla_items p))
+
+pub record EachSupplied {t : Types} (layer : Families t) : Type 0 where
+  pub peer : EachPeer layer.peer
+  pub bond : EachMember layer.bond
+  pub bridge : EachMember layer.bridge
+  pub vlan : EachMember layer.vlan
+  pub can : EachMember layer.can
+  pub hsr : EachMember layer.hsr
+  pub dsa : EachMember layer.dsa
+  pub tun : EachMember layer.tun
+  pub bond_port : EachMember layer.bond_port
+  pub bridge_port : EachMember layer.bridge_port
+
+lower_errors : {t : Types} (layer : Families t) → EachSupplied layer → (f : LowerFamily)
+    (p : List ℕ) → EachError ((lower_data_of layer f).means p)
 -- Begin: written by tables/generate from tables/kinds (lower).
-lower_errors lower.Bridge p =
-    variant_errors (λ xs. info.Bridge xs) (values bytes_families.bridge.meaning (nla_items p))
-    (table_errors _ _ [] p)
-lower_errors lower.Tun p =
-    variant_errors (λ xs. info.Tun xs) (values bytes_families.tun.meaning (nla_items p))
-    (table_errors _ _ [] p)
-lower_errors lower.Vlan p =
-    variant_errors (λ xs. info.Vlan xs) (values bytes_families.vlan.meaning (nla_items p))
-    (table_errors _ _ [] p)
-lower_errors lower.Bond p =
-    variant_errors (λ xs. info.Bond xs) (values bytes_families.bond.meaning (nla_items p))
-    (table_errors _ _ [] p)
-lower_errors lower.Hsr p =
-    variant_errors (λ xs. info.Hsr xs) (values bytes_families.hsr.meaning (nla_items p))
-    (table_errors _ _ [] p)
-lower_errors lower.Can p =
-    variant_errors (λ xs. info.Can xs) (values bytes_families.can.meaning (nla_items p))
-    (table_errors _ _ [] p)
-lower_errors lower.Dsa p =
-    variant_errors (λ xs. info.Dsa xs) (values bytes_families.dsa.meaning (nla_items p))
-    (table_errors _ _ [] p)
+lower_errors layer each lower.Bridge p =
+    variant_errors (λ xs. info.Bridge xs) (values layer.bridge.meaning (nla_items p))
+    (each.bridge p)
+lower_errors layer each lower.Tun p =
+    variant_errors (λ xs. info.Tun xs) (values layer.tun.meaning (nla_items p)) (each.tun p)
+lower_errors layer each lower.Vlan p =
+    variant_errors (λ xs. info.Vlan xs) (values layer.vlan.meaning (nla_items p)) (each.vlan p)
+lower_errors layer each lower.Bond p =
+    variant_errors (λ xs. info.Bond xs) (values layer.bond.meaning (nla_items p)) (each.bond p)
+lower_errors layer each lower.Hsr p =
+    variant_errors (λ xs. info.Hsr xs) (values layer.hsr.meaning (nla_items p)) (each.hsr p)
+lower_errors layer each lower.Can p =
+    variant_errors (λ xs. info.Can xs) (values layer.can.meaning (nla_items p)) (each.can p)
+lower_errors layer each lower.Dsa p =
+    variant_errors (λ xs. info.Dsa xs) (values layer.dsa.meaning (nla_items p)) (each.dsa p)
 
 -- End: written by tables/generate.
 
@@ -187,40 +192,40 @@ mac_vtap_each c n =
     level_each family.MacVtap (λ d. macvtap.Other d) mac_vtap_attribute
     (λ xs. macvtap.MacAddrData xs) mac_vtap_plain_rows (128 - c) n
 
-devices_errors : (f : DeviceFamily) (p : List ℕ) →
-    EachError ((devices_data_of (types_of bytes_families) f).means p)
+devices_errors : (types : Types) (f : DeviceFamily) (p : List ℕ) →
+    EachError ((devices_data_of types f).means p)
 -- Begin: written by tables/generate from tables/kinds (device).
-devices_errors device.IpVlan p =
+devices_errors types device.IpVlan p =
     variant_errors (λ xs. info.IpVlan xs) (values plain.ip_vlan.meaning (nla_items p))
     (table_errors _ _ ip_vlan_rows p)
-devices_errors device.IpVtap p =
+devices_errors types device.IpVtap p =
     variant_errors (λ xs. info.IpVtap xs) (values plain.ip_vtap.meaning (nla_items p))
     (table_errors _ _ ip_vlan_rows p)
-devices_errors (device.MacVlan around) p =
+devices_errors types (device.MacVlan around) p =
     variant_errors (λ xs. info.MacVlan xs) (values (plain.mac_vlan around).meaning (nla_items p))
     (list_errors (plain.mac_vlan around).meaning
     (λ a.
     rows_errors family.MacVlan (λ d. macvlan.Other d) (λ n. mac_vlan_rows around n)
     (λ n. mac_vlan_each around n) a) (nla_items p))
-devices_errors (device.MacVtap around) p =
+devices_errors types (device.MacVtap around) p =
     variant_errors (λ xs. info.MacVtap xs) (values (plain.mac_vtap around).meaning (nla_items p))
     (list_errors (plain.mac_vtap around).meaning
     (λ a.
     rows_errors family.MacVtap (λ d. macvtap.Other d) (λ n. mac_vtap_rows around n)
     (λ n. mac_vtap_each around n) a) (nla_items p))
-devices_errors device.Vrf p =
+devices_errors types device.Vrf p =
     variant_errors (λ xs. info.Vrf xs) (values plain.vrf.meaning (nla_items p))
     (table_errors _ _ vrf_rows p)
-devices_errors device.Ipoib p =
+devices_errors types device.Ipoib p =
     variant_errors (λ xs. info.Ipoib xs) (values plain.ipoib.meaning (nla_items p))
     (table_errors _ _ ipoib_rows p)
-devices_errors device.Xfrm p =
+devices_errors types device.Xfrm p =
     variant_errors (λ xs. info.Xfrm xs) (values plain.xfrm.meaning (nla_items p))
     (table_errors _ _ xfrm_rows p)
-devices_errors device.MacSec p =
+devices_errors types device.MacSec p =
     variant_errors (λ xs. info.MacSec xs) (values plain.mac_sec.meaning (nla_items p))
     (table_errors _ _ mac_sec_rows p)
-devices_errors device.RmNet p =
+devices_errors types device.RmNet p =
     variant_errors (λ xs. info.RmNet xs) (values plain.rm_net.meaning (nla_items p))
     (table_errors _ _ rm_net_rows p)
 
@@ -249,97 +254,92 @@ abbrev IsFlagged : TunnelFamily → Type 0
 IsFlagged (tunnel.IpTunnel t) = HasFlags t
 IsFlagged _ = Unit {0}
 
-tunnels_errors : (f : TunnelFamily) → IsFlagged f → (p : List ℕ) →
-    EachError ((tunnels_data_of (types_of bytes_families) f).means p)
+tunnels_errors : (types : Types) (f : TunnelFamily) → IsFlagged f → (p : List ℕ) →
+    EachError ((tunnels_data_of types f).means p)
 -- Begin: written by tables/generate from tables/kinds (tunnel).
-tunnels_errors tunnel.Vxlan h p =
+tunnels_errors types tunnel.Vxlan h p =
     variant_errors (λ xs. info.Vxlan xs) (values plain.vxlan.meaning (nla_items p))
     (table_errors _ _ vxlan_rows p)
-tunnels_errors tunnel.GreTap h p =
+tunnels_errors types tunnel.GreTap h p =
     variant_errors (λ xs. info.GreTap xs) (values plain.gre.meaning (nla_items p))
     (table_errors _ _ gre_rows p)
-tunnels_errors tunnel.GreTap6 h p =
+tunnels_errors types tunnel.GreTap6 h p =
     variant_errors (λ xs. info.GreTap6 xs) (values plain.gre6.meaning (nla_items p))
     (table_errors _ _ gre6_rows p)
-tunnels_errors (tunnel.IpTunnel t) h p =
+tunnels_errors types (tunnel.IpTunnel t) h p =
     variant_errors (λ xs. info.IpTunnel xs) (values (plain.ip_tunnel t).meaning (nla_items p))
     (list_errors (plain.ip_tunnel t).meaning
     (λ a. rows_errors family.IpTunnel _ (λ n. ip_tunnel_row t n) (λ n. ip_tunnel_each t h n) a)
     (nla_items p))
-tunnels_errors tunnel.GreTun h p =
+tunnels_errors types tunnel.GreTun h p =
     variant_errors (λ xs. info.GreTun xs) (values plain.gre.meaning (nla_items p))
     (table_errors _ _ gre_rows p)
-tunnels_errors tunnel.GreTun6 h p =
+tunnels_errors types tunnel.GreTun6 h p =
     variant_errors (λ xs. info.GreTun6 xs) (values plain.gre6.meaning (nla_items p))
     (table_errors _ _ gre6_rows p)
-tunnels_errors tunnel.Vti h p =
+tunnels_errors types tunnel.Vti h p =
     variant_errors (λ xs. info.Vti xs) (values plain.vti.meaning (nla_items p))
     (table_errors _ _ vti_rows p)
-tunnels_errors tunnel.Gtp h p =
+tunnels_errors types tunnel.Gtp h p =
     variant_errors (λ xs. info.Gtp xs) (values plain.gtp.meaning (nla_items p))
     (table_errors _ _ gtp_rows p)
-tunnels_errors tunnel.Geneve h p =
+tunnels_errors types tunnel.Geneve h p =
     variant_errors (λ xs. info.Geneve xs) (values plain.geneve.meaning (nla_items p))
     (table_errors _ _ geneve_rows p)
-tunnels_errors tunnel.Amt h p =
+tunnels_errors types tunnel.Amt h p =
     variant_errors (λ xs. info.Amt xs) (values plain.amt.meaning (nla_items p))
     (table_errors _ _ amt_rows p)
-tunnels_errors tunnel.BareUdp h p =
+tunnels_errors types tunnel.BareUdp h p =
     variant_errors (λ xs. info.BareUdp xs) (values plain.bare_udp.meaning (nla_items p))
     (table_errors _ _ bare_udp_rows p)
-tunnels_errors tunnel.ErSpan h p =
+tunnels_errors types tunnel.ErSpan h p =
     variant_errors (λ xs. info.ErSpan xs) (values plain.gre.meaning (nla_items p))
     (table_errors _ _ gre_rows p)
-tunnels_errors tunnel.Ip6ErSpan h p =
+tunnels_errors types tunnel.Ip6ErSpan h p =
     variant_errors (λ xs. info.Ip6ErSpan xs) (values plain.gre6.meaning (nla_items p))
     (table_errors _ _ gre6_rows p)
 
 -- End: written by tables/generate.
 
--- a payload of a peer that is kept as bytes has no error
-sure : {X : Type 0} (x : X) → EachPayloadError (let m : Result X PayloadError = Ok x in m)
-sure x = (λ c k. absurd cc, λ e k. absurd cc)
-
-peers_errors : (f : PeeredFamily) (p : List ℕ) →
-    EachError ((peers_data_of (types_of bytes_families) bytes_families.peer f).means p)
+peers_errors : (types : Types) (peer : Ghosts types.Peer) → EachPeer peer → (f : PeeredFamily)
+    (p : List ℕ) → EachError ((peers_data_of types peer f).means p)
 -- Begin: written by tables/generate from tables/kinds (peered).
-peers_errors peered.Veth p =
+peers_errors types peer each peered.Veth p =
     variant_errors (λ x. info.Veth x)
-    (first_meaning (veth_members bytes_families.peer).meaning (nla_items p))
-    (first_errors (veth_members bytes_families.peer).meaning
+    (first_meaning (veth_members peer).meaning (nla_items p))
+    (first_errors (veth_members peer).meaning
     (λ a.
     rows_errors family.Veth _ _
     (λ n.
-    row_if_each (n == 1) _ (table_row [] n) (λ q. sure _) (table_rows {F = InfoVethOf Bytes} [] n))
+    row_if_each (n == 1) _ (table_row [] n) each (table_rows {F = InfoVethOf types.Peer} [] n))
     a) (nla_items p))
-peers_errors peered.Wireguard p =
+peers_errors types peer each peered.Wireguard p =
     variant_errors (λ xs. info.Wireguard xs) (values plain.wireguard.meaning (nla_items p))
     (table_errors _ _ [] p)
-peers_errors peered.Netkit p =
-    variant_errors (λ xs. info.Netkit xs)
-    (values (netkit_members bytes_families.peer).meaning (nla_items p))
-    (list_errors (netkit_members bytes_families.peer).meaning
+peers_errors types peer each peered.Netkit p =
+    variant_errors (λ xs. info.Netkit xs) (values (netkit_members peer).meaning (nla_items p))
+    (list_errors (netkit_members peer).meaning
     (λ a.
     rows_errors family.Netkit _ _
     (λ n.
-    row_if_each (n == 1) _ (table_row (netkit_plain {P = Bytes}) n) (λ q. sure _)
-    (table_rows (netkit_plain {P = Bytes}) n)) a) (nla_items p))
-peers_errors peered.Vxcan p =
+    row_if_each (n == 1) _ (table_row (netkit_plain {P = types.Peer}) n) each
+    (table_rows (netkit_plain {P = types.Peer}) n)) a) (nla_items p))
+peers_errors types peer each peered.Vxcan p =
     variant_errors (λ x. info.Vxcan x)
-    (first_meaning (vxcan_members bytes_families.peer).meaning (nla_items p))
-    (first_errors (vxcan_members bytes_families.peer).meaning
+    (first_meaning (vxcan_members peer).meaning (nla_items p))
+    (first_errors (vxcan_members peer).meaning
     (λ a.
     rows_errors family.Vxcan _ _
     (λ n.
-    row_if_each (n == 1) _ (table_row [] n) (λ q. sure _) (table_rows {F = InfoVxcanOf Bytes} [] n))
+    row_if_each (n == 1) _ (table_row [] n) each (table_rows {F = InfoVxcanOf types.Peer} [] n))
     a) (nla_items p))
-peers_errors peered.BatAdv p =
+peers_errors types peer each peered.BatAdv p =
     variant_errors (λ xs. info.BatAdv xs) (values plain.bat_adv.meaning (nla_items p))
     (table_errors _ _ bat_adv_rows p)
-peers_errors peered.Wwan p =
+peers_errors types peer each peered.Wwan p =
     variant_errors (λ xs. info.Wwan xs) (values plain.wwan.meaning (nla_items p))
     (table_errors _ _ wwan_rows p)
-peers_errors peered.Pfcp p =
+peers_errors types peer each peered.Pfcp p =
     variant_errors (λ xs. info.Pfcp xs) (values plain.pfcp.meaning (nla_items p))
     (table_errors _ _ [] p)
 
@@ -349,13 +349,14 @@ abbrev IsFlaggedData : DataFamily → Type 0
 IsFlaggedData (of.Tunnel f) = IsFlagged f
 IsFlaggedData _ = Unit {0}
 
-data_errors : (f : DataFamily) → IsFlaggedData f → (p : List ℕ) →
-    EachError ((data_of bytes_families f).means p)
-data_errors (of.Lower f) h p = lower_errors f p
-data_errors (of.Device f) h p = devices_errors f p
-data_errors (of.Tunnel f) h p = tunnels_errors f h p
-data_errors (of.Peered f) h p = peers_errors f p
-data_errors of.Raw h p = λ e k. absurd cc
+data_errors : {t : Types} (layer : Families t) → EachSupplied layer → (f : DataFamily) →
+    IsFlaggedData f → (p : List ℕ) → EachError ((data_of layer f).means p)
+data_errors layer each (of.Lower f) h p = lower_errors layer each f p
+data_errors layer each (of.Device f) h p = devices_errors (types_of layer) f p
+data_errors layer each (of.Tunnel f) h p = tunnels_errors (types_of layer) f h p
+data_errors layer each (of.Peered f) h p =
+    peers_errors (types_of layer) layer.peer each.peer f p
+data_errors layer each of.Raw h p = λ e k. absurd cc
 
 kinds_flagged : (t : KindTag) → IsFlaggedData (family_of t)
 kinds_flagged tag.IpIp = tt
@@ -363,22 +364,21 @@ kinds_flagged tag.SitTun = tt
 kinds_flagged tag.Ip6Tnl = tt
 kinds_flagged _ = tt
 
-ports_errors : (f : PortFamily) (p : List ℕ) → EachError ((port_data_of bytes_families f).means p)
-ports_errors port_data.Bond p =
-    variant_errors (λ xs. port_info.BondPort xs)
-    (values bytes_families.bond_port.meaning (nla_items p))
-    (table_errors _ _ [] p)
-ports_errors port_data.Bridge p =
-    variant_errors (λ xs. port_info.BridgePort xs)
-    (values bytes_families.bridge_port.meaning (nla_items p))
-    (table_errors _ _ [] p)
-ports_errors port_data.Vrf p =
+ports_errors : {t : Types} (layer : Families t) → EachSupplied layer → (f : PortFamily)
+    (p : List ℕ) → EachError ((port_data_of layer f).means p)
+ports_errors layer each port_data.Bond p =
+    variant_errors (λ xs. port_info.BondPort xs) (values layer.bond_port.meaning (nla_items p))
+    (each.bond_port p)
+ports_errors layer each port_data.Bridge p =
+    variant_errors (λ xs. port_info.BridgePort xs) (values layer.bridge_port.meaning (nla_items p))
+    (each.bridge_port p)
+ports_errors layer each port_data.Vrf p =
     variant_errors (λ xs. port_info.VrfPort xs) (values plain.vrf_port.meaning (nla_items p))
     (table_errors _ _ vrf_rows p)
-ports_errors port_data.Team p =
+ports_errors layer each port_data.Team p =
     variant_errors (λ xs. port_info.TeamPort xs) (values plain.team_port.meaning (nla_items p))
     (table_errors _ _ [] p)
-ports_errors port_data.Raw p = λ e k. absurd cc
+ports_errors layer each port_data.Raw p = λ e k. absurd cc
 
 -- ---- the list
 
@@ -388,37 +388,41 @@ name_errors n label p =
     labelled_errors family.LinkInfo n label (own (means Name p))
     (own_errors (means Name p) (shape_causes Name p))
 
-role_errors : (r : Role) (a : Attribute) →
-    EachError (row_meaning family.LinkInfo link_other (link_row bytes_layer r) a)
-role_errors role.Kind a = name_errors (masked a.kind) _ a.value
-role_errors (role.Data t) a =
+role_errors : {t : Types} (layer : Families t) → EachSupplied layer → (r : Role)
+    (a : Attribute) →
+    EachError (row_meaning family.LinkInfo link_other (link_row (data_families layer) r) a)
+role_errors layer each role.Kind a = name_errors (masked a.kind) _ a.value
+role_errors layer each (role.Data tag) a =
     labelled_errors family.LinkInfo (masked a.kind) (λ d. link.Data d)
-    (inside ((data_of bytes_families (family_of t)).means a.value))
-    (inside_errors ((data_of bytes_families (family_of t)).means a.value)
-    (data_errors (family_of t) (kinds_flagged t) a.value))
-role_errors role.Xstats a =
+    (inside ((data_of layer (family_of tag)).means a.value))
+    (inside_errors ((data_of layer (family_of tag)).means a.value)
+    (data_errors layer each (family_of tag) (kinds_flagged tag) a.value))
+role_errors layer each role.Xstats a =
     labelled_errors family.LinkInfo (masked a.kind) (λ bytes. link.Xstats (xstats.Other bytes))
     (own (means Raw a.value)) (own_errors (means Raw a.value) (shape_causes Raw a.value))
-role_errors role.PortKind a = name_errors (masked a.kind) _ a.value
-role_errors (role.PortData t) a =
+role_errors layer each role.PortKind a = name_errors (masked a.kind) _ a.value
+role_errors layer each (role.PortData tag) a =
     labelled_errors family.LinkInfo (masked a.kind) (λ d. link.PortData d)
-    (inside ((port_data_of bytes_families (port_family_of t)).means a.value))
-    (inside_errors ((port_data_of bytes_families (port_family_of t)).means a.value)
-    (ports_errors (port_family_of t) a.value))
-role_errors role.Misplaced a = λ e k.
+    (inside ((port_data_of layer (port_family_of tag)).means a.value))
+    (inside_errors ((port_data_of layer (port_family_of tag)).means a.value)
+    (ports_errors layer each (port_family_of tag) a.value))
+role_errors {t = t} layer each role.Misplaced a = λ e k.
     subst IsReturned (ap (λ (d : DecodeError). d.cause)
-    (bad_same {X = LinkOf (data_types (peer_types Bytes))} _ e k))
+    (bad_same {X = LinkOf (data_types t)} _ e k))
     (let order : IsReturned cause.Order = tt in order)
-role_errors role.Unknown a = λ e k. absurd cc
+role_errors layer each role.Unknown a = λ e k. absurd cc
 
-link_errors : (t : CurrentKinds) (a : Attribute) → EachError (link_meaning bytes_layer t a)
+link_errors : {t : Types} (layer : Families t) → EachSupplied layer → (k : CurrentKinds)
+    (a : Attribute) → EachError (link_meaning (data_families layer) k a)
 unfolding meaning_in
-link_errors t a = role_errors (role_of t (masked a.kind)) a
+link_errors layer each k a = role_errors layer each (role_of k (masked a.kind)) a
 
-pub reading_errors : (s : List ℕ) → EachError (reading bytes_layer s)
+pub reading_errors : {t : Types} (layer : Families t) → EachSupplied layer → (s : List ℕ) →
+    EachError (reading (data_families layer) s)
 unfolding reading
-reading_errors s =
-    list_errors_under (link_meaning bytes_layer) next_kinds link_errors no_kinds (nla_items s)
+reading_errors layer each s =
+    list_errors_under (link_meaning (data_families layer)) next_kinds (link_errors layer each)
+    no_kinds (nla_items s)
 
 -- ---- the numbers of causes
 
@@ -455,24 +459,12 @@ pub verdict_code : {X : Type 0} (m : Result X DecodeError) → EachError m →
 verdict_code (Ok x) h = no_code
 verdict_code (Err e) h = code_of e.cause (h e refl)
 
--- the error of the first of two byte strings, or of the second
-pub first_cause : {X : Type 0} (m n : Result X DecodeError) (alike : Bool) (e : DecodeError) →
-    EachError m →
-    (let r : Result Bool ErrorIn = Err (error_in_one.First e) in r) ≡ same_at_answer m n alike →
-    IsReturned e.cause
-first_cause {X = X} (Err d) n alike e h k =
-    h e (let same : d ≡ e = cc in ap (λ (z : DecodeError). bad {X = X} z) same)
-first_cause (Ok x) (Err d) alike e h k = absurd cc
-first_cause (Ok x) (Ok y) alike e h k = absurd cc
-
-pub second_cause : {X : Type 0} (m n : Result X DecodeError) (alike : Bool) (e : DecodeError) →
-    EachError n →
-    (let r : Result Bool ErrorIn = Err (error_in_one.Second e) in r)
-    ≡ same_at_answer m n alike → IsReturned e.cause
-second_cause (Err d) n alike e h k = absurd cc
-second_cause {X = X} (Ok x) (Err d) alike e h k =
-    h e (let same : d ≡ e = cc in ap (λ (z : DecodeError). bad {X = X} z) same)
-second_cause (Ok x) (Ok y) alike e h k = absurd cc
+-- the result of `same_at`: the error of the first list, that of the second, or none
+pub same_code : {X : Type 0} (m n : Result X DecodeError) (alike : Bool) → EachError m →
+    EachError n → IsReturnedCode (same_record (same_at_answer m n alike)).error.cause
+same_code (Err e) n alike h k = code_of e.cause (h e refl)
+same_code (Ok x) (Err e) alike h k = code_of e.cause (k e refl)
+same_code (Ok x) (Ok y) alike h k = no_code
 
 -- the result of `first_unmet`: the error of the link's list, that of the request, or none
 pub unmet_code : {X : Type 0} (m n : Result X DecodeError) (u : Option Unmet) → EachError m →
@@ -541,9 +533,9 @@ framed_code ((Ok a) ∷ more) = framed_code more
 framed_code ((Err n) ∷ more) =
     code_of cause.Header (let header : IsReturned cause.Header = tt in header)
 
-pub given_code : (f : Option Family) (s : List ℕ) →
-    IsReturnedCode (error_after (given_inside f s)).cause
-given_code (Some f) s = framed_code (nla_items s)
+pub given_code : (contents : Option Contents) (s : List ℕ) →
+    IsReturnedCode (error_after (given_inside contents s)).cause
+given_code (Some contents) s = framed_code (nla_items s)
 given_code None s = no_code
 
 pub none_code : IsReturnedCode 0

@@ -1,5 +1,8 @@
+pub mod Canonical
 pub mod Causing
+pub mod CausingBytes
 pub mod CausingData
+pub mod CausingTyped
 pub mod Framed
 pub mod Listing
 pub mod Quarters

@@ -17,36 +17,66 @@ use Rattle.std.specs.Prelude.{
 }
 use Rattle.nla_frame.specs.Attribute.{Attribute, masked}
 use Rattle.nla_frame.specs.NlaItems.{items_of, nla_items}
+use Rattle.nla_frame.specs.declared.bytes.Bytes.{Bytes}
 use Rattle.nla_frame.specs.declared.error.Cause.{Cause}
 use Rattle.nla_frame.specs.declared.error.DecodeError.{DecodeError}
 use Rattle.nla_frame.specs.declared.error.Family.{Family}
 use Rattle.nla_frame.specs.declared.error.Family.TheVariants as family
 use Rattle.linkinfo_shapes.specs.Data.{Value, number, reads}
-use Rattle.linkinfo_shapes.specs.Table.{shape_of}
+use Rattle.linkinfo_shapes.specs.Typed.{typed_shape_of}
 use Rattle.linkinfo_shapes.specs.declared.shape.Shape.{Shape}
-use Rattle.linkinfo_shapes.specs.declared.shape.Shape.TheVariants.{Be16, Le32}
+use Rattle.linkinfo_shapes.specs.declared.shape.Shape.TheVariants.{Be16, Le32, V4, V6}
+use Rattle.linkinfo_table.specs.Layers.{Families}
 use Rattle.linkinfo_numbers.specs.declared.tags.KindTag.{KindTag}
 use Rattle.linkinfo_numbers.specs.declared.tags.KindTag.TheVariants as kind
 use Rattle.linkinfo_numbers.specs.declared.tags.PortTag.{PortTag}
-use Rattle.linkinfo_data.specs.BytesLayer.{bytes_families}
 use Rattle.linkinfo_data.specs.Data.{family_of}
 use Rattle.linkinfo_data.specs.Names.{data_name, port_data_name}
+use Rattle.linkinfo_data.specs.Plain.{plain}
 use Rattle.linkinfo_data.specs.PortData.{port_family_of}
+use Rattle.linkinfo_data.specs.TypedTypes.{typed_families, typed_types}
 use Rattle.linkinfo.specs.Placed.{place_after}
+use Rattle.linkinfo_c.specs.declared.attributes.Contents.{Contents}
+use Rattle.linkinfo_c.specs.declared.attributes.Contents.TheVariants.{Addresses, Attributes}
 use Rattle.linkinfo_c.specs.declared.attributes.LinkinfoAttribute.{LinkinfoAttribute}
-use Rattle.linkinfo_c.specs.Codes.{kind_of_code, port_kind_of_code, shape_code}
+use Rattle.linkinfo_c.specs.Codes.{
+  family_of_list,
+  kind_of_code,
+  list_v4,
+  list_v6,
+  port_kind_of_code,
+  shape_code,
+}
 use Rattle.linkinfo_c.specs.Items.{attributes_in, code_in, each_after}
 
--- ---- the family of the attributes in data; none if the data is opaque bytes
+-- ---- what the attributes in a payload are; none if data is opaque bytes
 
--- the family for a kind, or for a port kind
-abbrev pub family_among : Option KindTag → Option PortTag → Option Family
-family_among (Some tag) port = data_name bytes_families (family_of tag)
-family_among None (Some tag) = port_data_name bytes_families (port_family_of tag)
-family_among None None = None
+-- the families that the typed layer supplies
+abbrev pub typed_data : Families (typed_types Bytes)
+typed_data = typed_families plain.bytes_peer
 
-abbrev pub family_inside : ℕ → Option Family
-family_inside code = family_among (kind_of_code code) (port_kind_of_code code)
+-- attributes of a family, in data of a kind of links if that is known
+abbrev pub of_family : Option Family → Option KindTag → Option Contents
+of_family (Some f) tag = Some (Attributes f tag)
+of_family None tag = None
+
+-- those in a list in data, by its code
+abbrev pub contents_of_list : ℕ → Option Contents
+contents_of_list code =
+    if code == list_v4 then Some (Addresses V4)
+    else if code == list_v6 then Some (Addresses V6)
+    else of_family (family_of_list code) None
+
+-- those in data of a kind, or in port data of a port kind
+abbrev pub contents_among : Option KindTag → Option PortTag → ℕ → Option Contents
+contents_among (Some tag) port code =
+    of_family (data_name typed_data (family_of tag)) (Some tag)
+contents_among None (Some tag) code =
+    of_family (port_data_name typed_data (port_family_of tag)) None
+contents_among None None code = contents_of_list code
+
+abbrev pub contents_inside : ℕ → Option Contents
+contents_inside code = contents_among (kind_of_code code) (port_kind_of_code code) code
 
 -- ---- shapes and numbers
 
@@ -58,9 +88,15 @@ flags_shape (Some kind.Ip6Tnl) = Some Le32
 flags_shape _ = None
 
 -- the shape of a masked type, if it has one
-abbrev pub shape_in : Family → Option KindTag → ℕ → Option Shape
-shape_in family.IpTunnel tag n = if n == 8 then flags_shape tag else shape_of family.IpTunnel n
-shape_in f tag n = shape_of f n
+abbrev pub shape_of_family : Family → Option KindTag → ℕ → Option Shape
+shape_of_family family.IpTunnel tag n =
+    if n == 8 then flags_shape tag else typed_shape_of family.IpTunnel n
+shape_of_family f tag n = typed_shape_of f n
+
+-- each address of a list has the same shape
+abbrev pub shape_in : Contents → ℕ → Option Shape
+shape_in (Attributes f tag) n = shape_of_family f tag n
+shape_in (Addresses shape) n = Some shape
 
 -- what a payload means under a shape that accepts it; a list and a peer mean no value
 abbrev pub value_read : Result Value Cause → Option Value
@@ -93,21 +129,21 @@ attribute_at place shape a = record {
 }
 
 -- the record of an attribute of a payload, after others
-abbrev pub record_after : {R : Type 0} → (ℕ → Option Shape → Attribute → R) → List ℕ → Family →
-    Option KindTag → List Attribute → Attribute → R
-record_after record_at s f tag front a =
-    record_at (place_after s front) (shape_in f tag (masked a.kind)) a
+abbrev pub record_after : {R : Type 0} → (ℕ → Option Shape → Attribute → R) → List ℕ → Contents →
+    List Attribute → Attribute → R
+record_after record_at s contents front a =
+    record_at (place_after s front) (shape_in contents (masked a.kind)) a
 
 -- what iterating over a payload yields: no attributes if the data is opaque bytes
-abbrev pub given_inside : Option Family → List ℕ → List (Result Attribute DecodeError)
-given_inside (Some f) s = items_of (nla_items s)
+abbrev pub given_inside : Option Contents → List ℕ → List (Result Attribute DecodeError)
+given_inside (Some contents) s = items_of (nla_items s)
 given_inside None s = []
 
-abbrev pub records_inside : {R : Type 0} → (ℕ → Option Shape → Attribute → R) → Option Family →
-    Option KindTag → List ℕ → List R
-records_inside record_at (Some f) tag s =
-    each_after (record_after record_at s f tag) [] (attributes_in (items_of (nla_items s)))
-records_inside record_at None tag s = []
+abbrev pub records_inside : {R : Type 0} → (ℕ → Option Shape → Attribute → R) → Option Contents →
+    List ℕ → List R
+records_inside record_at (Some contents) s =
+    each_after (record_after record_at s contents) [] (attributes_in (items_of (nla_items s)))
+records_inside record_at None s = []
 
-abbrev pub attributes_inside : Option Family → Option KindTag → List ℕ → List LinkinfoAttribute
-attributes_inside f tag s = records_inside attribute_at f tag s
+abbrev pub attributes_inside : Option Contents → List ℕ → List LinkinfoAttribute
+attributes_inside contents s = records_inside attribute_at contents s

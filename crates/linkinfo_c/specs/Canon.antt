@@ -2,9 +2,6 @@
 use Rattle.std.specs.Prelude.{◌≡◌, ◌<◌, ◌≤◌, ℕ, List, ◌++◌, drop, length, map, Result, Ok, Err}
 use Rattle.nla_frame.specs.Attribute.{Attribute, ListFits, list_string}
 use Rattle.nla_frame.specs.declared.error.DecodeError.{DecodeError}
-use Rattle.linkinfo_data.specs.BytesLayer.{bytes_layer}
-use Rattle.linkinfo.specs.Layered.{Links}
-use Rattle.linkinfo.specs.Items.{link_attribute}
 use Rattle.linkinfo_c.specs.declared.canon.LinkinfoCanon.{LinkinfoCanon}
 use Rattle.linkinfo_c.specs.Codes.{canon_refused, canon_short, canon_unfit, canon_written}
 use Rattle.linkinfo_c.specs.Errors.{error_record, no_error}
@@ -38,7 +35,7 @@ IsCanonOf attributes old new answer =
     × (¬ ListFits attributes → (answer ≡ unfit) × (new ≡ old))
 
 -- the outcome by what a byte string means, and the buffer after the call
-abbrev pub IsCanon : Result (Links bytes_layer) DecodeError → List ℕ → List ℕ →
-    LinkinfoCanon → Type 0
-IsCanon (Err error) old new answer = (answer ≡ refused error) × (new ≡ old)
-IsCanon (Ok list) old new answer = IsCanonOf (map (link_attribute bytes_layer) list) old new answer
+abbrev pub IsCanon : {X : Type 0} → (X → Attribute) → Result (List X) DecodeError → List ℕ →
+    List ℕ → LinkinfoCanon → Type 0
+IsCanon attribute (Err error) old new answer = (answer ≡ refused error) × (new ≡ old)
+IsCanon attribute (Ok list) old new answer = IsCanonOf (map attribute list) old new answer

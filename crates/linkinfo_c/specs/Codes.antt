@@ -1,5 +1,5 @@
--- The numbers by which C knows families, causes, kinds, port kinds and shapes. A number never
--- changes once it is given: new ones are added at the end.
+-- The numbers by which C knows families, causes, kinds, port kinds, lists in data and shapes. A
+-- number never changes once it is given: new ones are added at the end.
 use Rattle.std.specs.Prelude.{ℕ, ◌==◌, if◌then◌else◌, List, [], ◌∷◌, Option, Some, None}
 use Rattle.nla_frame.specs.Error.{cause_number}
 use Rattle.nla_frame.specs.declared.error.Cause.{Cause}
@@ -77,6 +77,8 @@ family_code family.BridgeQuerierState = 40
 family_code family.CanTdc = 41
 family_code family.CanCtrlModeExt = 42
 family_code family.CanPwm = 43
+family_code family.Ovpn = 44
+family_code family.Ppp = 45
 
 -- End: written by tables/generate.
 
@@ -126,6 +128,8 @@ peer =
     family.CanTdc ∷
     family.CanCtrlModeExt ∷
     family.CanPwm ∷
+    family.Ovpn ∷
+    family.Ppp ∷
     -- End: written by tables/generate.
     []
 
@@ -284,6 +288,41 @@ port_kinds =
 
 abbrev pub port_kind_of_code : ℕ → Option PortTag
 port_kind_of_code code = of_code port_kind_code port_kinds code
+
+-- the codes of lists in data, none of which is that of a kind or of a port kind: of lists of
+-- addresses, and of those of attributes of a family, 0 of a family of which no other one has lists
+
+abbrev pub list_v4 : ℕ
+list_v4 = 512
+
+abbrev pub list_v6 : ℕ
+list_v6 = 513
+
+abbrev pub list_code : Family → ℕ
+-- Begin: written by tables/generate from tables/families (codes of lists).
+list_code family.VlanQosMapping = 550
+list_code family.BondAdInfo = 551
+list_code family.BridgeQuerierState = 552
+list_code family.CanTdc = 553
+list_code family.CanCtrlModeExt = 554
+list_code family.CanPwm = 555
+-- End: written by tables/generate.
+list_code _ = 0
+
+abbrev pub list_families : List Family
+list_families =
+    -- Begin: written by tables/generate from tables/families (lists).
+    family.VlanQosMapping ∷
+    family.BondAdInfo ∷
+    family.BridgeQuerierState ∷
+    family.CanTdc ∷
+    family.CanCtrlModeExt ∷
+    family.CanPwm ∷
+    -- End: written by tables/generate.
+    []
+
+abbrev pub family_of_list : ℕ → Option Family
+family_of_list code = of_code list_code list_families code
 
 -- the codes of shapes; 0 is none
 abbrev pub shape_code : Shape → ℕ

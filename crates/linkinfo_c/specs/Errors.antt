@@ -1,7 +1,9 @@
 -- Errors, verdicts and counts, as C has them.
-use Rattle.std.specs.Prelude.{Bool, false, Result, Ok, Err}
+use Rattle.std.specs.Prelude.{ℕ, Bool, false, Result, Ok, Err}
 use Rattle.nla_frame.specs.Error.{cause_number}
 use Rattle.nla_frame.specs.declared.error.DecodeError.{DecodeError}
+use Rattle.linkinfo.specs.declared.placed.ErrorIn.TheVariants.{First, Second}
+use Rattle.linkinfo.specs.declared.placed.ErrorIn.{ErrorIn}
 use Rattle.linkinfo_c.specs.declared.error.LinkinfoError.{LinkinfoError}
 use Rattle.linkinfo_c.specs.declared.check.LinkinfoSame.{LinkinfoSame}
 use Rattle.linkinfo_c.specs.Codes.{family_code}
@@ -22,18 +24,11 @@ abbrev pub error_or_none : {X : Type 0} → Result X DecodeError → LinkinfoErr
 error_or_none (Ok x) = no_error
 error_or_none (Err error) = error_record error
 
--- the record of a comparison, by what each byte string means: the error of the first, or that of
--- the second, or whether they are equivalent
-abbrev pub same_record : {X : Type 0} → Result X DecodeError → Result X DecodeError → Bool →
-    LinkinfoSame
-same_record (Err error) second alike = record {
-  error = error_record error;
-  rejected = 1;
-  same = false;
-}
-same_record (Ok x) (Err error) alike = record {
-  error = error_record error;
-  rejected = 2;
-  same = false;
-}
-same_record (Ok x) (Ok y) alike = record { error = no_error; rejected = 0; same = alike }
+abbrev pub same_rejected : ℕ → DecodeError → LinkinfoSame
+same_rejected list e = record { error = error_record e; rejected = list; same = false }
+
+-- the record of a comparison: the error of one of the lists, or whether they are equivalent
+abbrev pub same_record : Result Bool ErrorIn → LinkinfoSame
+same_record (Ok alike) = record { error = no_error; rejected = 0; same = alike }
+same_record (Err (First e)) = same_rejected 1 e
+same_record (Err (Second e)) = same_rejected 2 e

@@ -9,4 +9,5 @@ pub mod Errors
 pub mod Items
 pub mod Texts
 pub mod Unmet
+pub mod Usage
 pub mod Values

@@ -1,6 +1,8 @@
 -- What payloads in data mean, as C has it.
 use Rattle.std.specs.Prelude.{
   ℕ,
+  ◌==◌,
+  ◌%◌,
   pos,
   Bool,
   true,
@@ -15,8 +17,6 @@ use Rattle.std.specs.Prelude.{
 }
 use Rattle.std.specs.Net.Addr.{octets_of}
 use Rattle.nla_frame.specs.Attribute.{Attribute}
-use Rattle.nla_frame.specs.declared.error.Family.{Family}
-use Rattle.linkinfo_numbers.specs.declared.tags.KindTag.{KindTag}
 use Rattle.linkinfo_shapes.specs.Data.{Value, truth, empty, text, v4, v6, mac, bytes}
 use Rattle.linkinfo_shapes.specs.Data.{number_in, pair_in, signed_in}
 use Rattle.linkinfo_shapes.specs.declared.shape.Shape.{Shape}
@@ -33,11 +33,20 @@ use Rattle.linkinfo_shapes.specs.declared.shape.Shape.TheVariants.{
   V4List,
   V6List,
 }
+use Rattle.linkinfo_c.specs.declared.attributes.Contents.{Contents}
 use Rattle.linkinfo_c.specs.declared.values.LinkinfoValue.{LinkinfoValue}
 use Rattle.linkinfo_c.specs.declared.values.LinkinfoValuedAttribute.{LinkinfoValuedAttribute}
 use Rattle.linkinfo_c.specs.Attributes.{datum_in, records_inside}
 use Rattle.linkinfo_c.specs.Buffers.{with_front}
-use Rattle.linkinfo_c.specs.Codes.{shape_code, value_code, value_list, value_none}
+use Rattle.linkinfo_c.specs.Codes.{
+  list_code,
+  list_v4,
+  list_v6,
+  shape_code,
+  value_code,
+  value_list,
+  value_none,
+}
 use Rattle.linkinfo_c.specs.Items.{code_in}
 
 -- ---- values
@@ -73,6 +82,7 @@ value_record value = record {
   first = (pair_in value).0;
   second = (pair_in value).1;
   value_type = value_code value;
+  list_kind = 0;
   truth = says_true value;
 }
 
@@ -87,15 +97,26 @@ plain_record code n s = record {
   first = 0;
   second = 0;
   value_type = code;
+  list_kind = 0;
   truth = false;
 }
 
 abbrev pub no_value : LinkinfoValue
 no_value = plain_record value_none 0 []
 
--- a list of attributes of the same family
-abbrev pub list_record : List ℕ → LinkinfoValue
-list_record payload = plain_record value_list (length payload) []
+-- a list, with the code of such lists; 0 of a list of attributes of the same family
+abbrev pub list_record : ℕ → List ℕ → LinkinfoValue
+list_record code payload = record {
+  number = 0;
+  signed_number = pos 0;
+  len = length payload;
+  octets = address_octets [];
+  first = 0;
+  second = 0;
+  value_type = value_list;
+  list_kind = code;
+  truth = false;
+}
 
 abbrev pub address_record : ℕ → List ℕ → LinkinfoValue
 address_record code s = plain_record code (length s) s
@@ -107,20 +128,25 @@ abbrev pub value_or_none : Option Value → LinkinfoValue
 value_or_none (Some value) = value_record value
 value_or_none None = no_value
 
+-- a payload that is bytes, if its shape accepts so many
+abbrev pub bytes_if : Bool → List ℕ → LinkinfoValue
+bytes_if true payload = value_record (bytes payload)
+bytes_if false payload = no_value
+
 -- the value of a payload: a peer, a record and an array are their bytes, and a list is a list
 -- whatever its attributes are
 abbrev pub value_in : Option Shape → List ℕ → LinkinfoValue
-value_in (Some SelfList) payload = list_record payload
-value_in (Some (Nested family)) payload = list_record payload
-value_in (Some V4List) payload = list_record payload
-value_in (Some V6List) payload = list_record payload
-value_in (Some Peer) payload = value_record (bytes payload)
-value_in (Some BridgeId) payload = value_record (bytes payload)
-value_in (Some LePair16) payload = value_record (bytes payload)
-value_in (Some Le32x8) payload = value_record (bytes payload)
-value_in (Some CanBitTimingConst) payload = value_record (bytes payload)
-value_in (Some Le16s) payload = value_record (bytes payload)
-value_in (Some Le32s) payload = value_record (bytes payload)
+value_in (Some SelfList) payload = list_record 0 payload
+value_in (Some (Nested family)) payload = list_record (list_code family) payload
+value_in (Some V4List) payload = list_record list_v4 payload
+value_in (Some V6List) payload = list_record list_v6 payload
+value_in (Some Peer) payload = bytes_if true payload
+value_in (Some BridgeId) payload = bytes_if (length payload == 8) payload
+value_in (Some LePair16) payload = bytes_if (length payload == 4) payload
+value_in (Some Le32x8) payload = bytes_if (length payload == 32) payload
+value_in (Some CanBitTimingConst) payload = bytes_if (length payload == 48) payload
+value_in (Some Le16s) payload = bytes_if ((length payload % 2) == 0) payload
+value_in (Some Le32s) payload = bytes_if ((length payload % 4) == 0) payload
 value_in shape payload = value_or_none (datum_in shape payload)
 
 -- ---- attributes
@@ -134,5 +160,5 @@ value_at place shape a = record {
   shape = code_in shape_code shape;
 }
 
-abbrev pub values_inside : Option Family → Option KindTag → List ℕ → List LinkinfoValuedAttribute
-values_inside f tag s = records_inside value_at f tag s
+abbrev pub values_inside : Option Contents → List ℕ → List LinkinfoValuedAttribute
+values_inside contents s = records_inside value_at contents s

@@ -3,7 +3,6 @@
 ghost use Rattle.std.specs.Prelude.{◌≡◌, ℕ, Option, Some};
 ghost use Rattle.std.specs.Option.{option_map};
 ghost use Rattle.nla_frame.specs.Attribute.{Attribute};
-ghost use Rattle.linkinfo_data.specs.BytesLayer.{bytes_families};
 ghost use Rattle.linkinfo_data.specs.Names.{
   data_name,
   device_name,
@@ -18,20 +17,23 @@ ghost use Rattle.linkinfo_c.specs.Arrays.{WritesRecords};
 ghost use Rattle.linkinfo_c.specs.Attributes.{
   attribute_at,
   attributes_inside,
+  contents_inside,
+  contents_of_list,
   datum_in,
-  family_inside,
   flags_shape,
   given_inside,
   number_in,
+  of_family,
   records_inside,
   shape_in,
+  shape_of_family,
+  typed_data,
 };
-ghost use Rattle.linkinfo_c.specs.Codes.{kind_of_code};
 
-use crate::codes::{kind_of_code, port_kind_of_code, shape_code};
+use crate::codes::{V4_LIST, V6_LIST, family_of_list, kind_of_code, port_kind_of_code, shape_code};
 use crate::error::{NO_ERROR, error_record};
 use crate::items::{LinkinfoListResult, write_at};
-use linkinfo::families::{Datum, Shape, read_datum, table_shape};
+use linkinfo::families::{Datum, Shape, read_datum, typed_shape};
 use linkinfo::{
     DataFamily, DeviceFamily, Family, KindTag, LowerFamily, NlaBuffer, NlasIterator, PeeredFamily,
     PortFamily, TunnelFamily, family_of, port_family_of,
@@ -57,22 +59,52 @@ pub struct LinkinfoAttribute {
     pub is_number: bool,
 }
 
-/// The family of the attributes in data of a kind, or in port data of a port kind, by the kind's
-/// code. It is `None` if the data is opaque bytes.
-fn family_inside(kind: u16) -> Option<Family>
-    ensures { result ≡ family_inside kind }
+/// What the attributes in a payload are.
+#[derive(Clone, Copy)]
+pub(crate) enum Contents {
+    /// Attributes of a family, in data of a kind of links if that is known.
+    Attributes(Family, Option<KindTag>),
+    /// The elements of a list of addresses, whatever their types: the shape of each.
+    Addresses(Shape),
+}
+
+/// The attributes in data of a kind, in port data of a port kind, or in a list in data, by the code
+/// of the kind or of the list. It is `None` if the data is opaque bytes.
+fn contents_inside(code: u16) -> Option<Contents>
+    ensures { result ≡ contents_inside code }
 {
-    match kind_of_code(kind) {
-        Some(tag) => data_name(family_of(tag)),
-        None => match port_kind_of_code(kind) {
-            Some(tag) => port_data_name(port_family_of(tag)),
-            None => None,
+    match kind_of_code(code) {
+        Some(tag) => of_family(data_name(family_of(tag)), Some(tag)),
+        None => match port_kind_of_code(code) {
+            Some(tag) => of_family(port_data_name(port_family_of(tag)), None),
+            None => contents_of_list(code),
         },
     }
 }
 
+/// The attributes in a list in data, by its code.
+fn contents_of_list(code: u16) -> Option<Contents>
+    ensures { result ≡ contents_of_list code }
+{
+    if code == V4_LIST {
+        Some(Contents::Addresses(Shape::V4))
+    } else if code == V6_LIST {
+        Some(Contents::Addresses(Shape::V6))
+    } else {
+        of_family(family_of_list(code), None)
+    }
+}
+
+/// Attributes of a family, if there is one, in data of a kind of links if that is known.
+fn of_family(family: Option<Family>, kind: Option<KindTag>) -> Option<Contents>
+    ensures { result ≡ of_family family kind }
+{
+    let family = family?;
+    Some(Contents::Attributes(family, kind))
+}
+
 fn data_name(family: DataFamily) -> Option<Family>
-    ensures { result ≡ data_name bytes_families family }
+    ensures { result ≡ data_name typed_data family }
 {
     match family {
         DataFamily::Lower(family) => Some(lower_name(family)),
@@ -84,7 +116,7 @@ fn data_name(family: DataFamily) -> Option<Family>
 }
 
 fn lower_name(family: LowerFamily) -> Family
-    ensures { result ≡ lower_name bytes_families family }
+    ensures { result ≡ lower_name typed_data family }
 {
     match family {
         // Begin: written by tables/generate from tables/kinds (lower).
@@ -100,7 +132,7 @@ fn lower_name(family: LowerFamily) -> Family
 }
 
 fn device_name(family: DeviceFamily) -> Family
-    ensures { result ≡ device_name bytes_families family }
+    ensures { result ≡ device_name typed_data family }
 {
     match family {
         // Begin: written by tables/generate from tables/kinds (device).
@@ -118,7 +150,7 @@ fn device_name(family: DeviceFamily) -> Family
 }
 
 fn tunnel_name(family: TunnelFamily) -> Family
-    ensures { result ≡ tunnel_name bytes_families family }
+    ensures { result ≡ tunnel_name typed_data family }
 {
     match family {
         // Begin: written by tables/generate from tables/kinds (tunnel).
@@ -136,7 +168,7 @@ fn tunnel_name(family: TunnelFamily) -> Family
 }
 
 fn peered_name(family: PeeredFamily) -> Family
-    ensures { result ≡ peered_name bytes_families family }
+    ensures { result ≡ peered_name typed_data family }
 {
     match family {
         // Begin: written by tables/generate from tables/kinds (peered).
@@ -152,7 +184,7 @@ fn peered_name(family: PeeredFamily) -> Family
 }
 
 fn port_data_name(family: PortFamily) -> Option<Family>
-    ensures { result ≡ port_data_name bytes_families family }
+    ensures { result ≡ port_data_name typed_data family }
 {
     match family {
         PortFamily::Bond => Some(Family::BondPort),
@@ -175,12 +207,22 @@ fn flags_shape(kind: Option<KindTag>) -> Option<Shape>
 }
 
 /// The shape of a type without flag bits, in a family and under a kind.
-fn shape_in(family: Family, kind: Option<KindTag>, masked: u16) -> Option<Shape>
-    ensures { result ≡ shape_in family kind masked }
+fn shape_of_family(family: Family, kind: Option<KindTag>, masked: u16) -> Option<Shape>
+    ensures { result ≡ shape_of_family family kind masked }
 {
     match family {
         Family::IpTunnel if masked == IFLA_IPTUN_FLAGS => flags_shape(kind),
-        _ => table_shape(family, masked),
+        _ => typed_shape(family, masked),
+    }
+}
+
+/// The shape of a type without flag bits among these attributes.
+fn shape_in(contents: Contents, masked: u16) -> Option<Shape>
+    ensures { result ≡ shape_in contents masked }
+{
+    match contents {
+        Contents::Attributes(family, kind) => shape_of_family(family, kind, masked),
+        Contents::Addresses(shape) => Some(shape),
     }
 }
 
@@ -232,16 +274,14 @@ impl AttributeRecord for LinkinfoAttribute {
     }
 }
 
-/// Writes the attributes of a payload, as those of a family under a kind, into the array: as many
-/// as it has room for.
+/// Writes the attributes of a payload into the array: as many as it has room for.
 fn write_attributes<R: AttributeRecord>(
     bytes: &[u8],
-    family: Family,
-    kind: Option<KindTag>,
+    contents: Contents,
     records: &mut [R],
 ) -> LinkinfoListResult
-    ensures { WritesRecords (records_inside R.record_at (Some family) kind bytes.now)
-        (given_inside (Some family) bytes.now) bytes.now records.old records.new result }
+    ensures { WritesRecords (records_inside R.record_at (Some contents) bytes.now)
+        (given_inside (Some contents) bytes.now) bytes.now records.old records.new result }
 {
     let mut nlas = NlasIterator::new(bytes);
     let mut count = 0;
@@ -249,7 +289,7 @@ fn write_attributes<R: AttributeRecord>(
     while let Some(next) = nlas.next() {
         match next {
             Ok(nla) => {
-                let shape = shape_in(family, kind, nla.kind());
+                let shape = shape_in(contents, nla.kind());
                 write_at(records, count, R::of_attribute(place, shape, &nla));
                 count = nlas.examined();
                 place = nlas.place();
@@ -270,20 +310,19 @@ fn write_attributes<R: AttributeRecord>(
     }
 }
 
-/// Writes the attributes in data of a kind, or in port data of a port kind, into the array: as many
-/// as it has room for, up to the first without an accepted header. There are none if such data is
-/// opaque bytes, and none for a number that is no kind and no port kind.
+/// Writes the attributes in data of a kind, in port data of a port kind, or in a list in data, into
+/// the array: as many as it has room for, up to the first without an accepted header. There are
+/// none if such data is opaque bytes, and none for a number of no kind and no list.
 pub(crate) fn write_inside<R: AttributeRecord>(
     bytes: &[u8],
     kind: u16,
     records: &mut [R],
 ) -> LinkinfoListResult
-    ensures { WritesRecords
-        (records_inside R.record_at (family_inside kind) (kind_of_code kind) bytes.now)
-        (given_inside (family_inside kind) bytes.now) bytes.now records.old records.new result }
+    ensures { WritesRecords (records_inside R.record_at (contents_inside kind) bytes.now)
+        (given_inside (contents_inside kind) bytes.now) bytes.now records.old records.new result }
 {
-    match family_inside(kind) {
-        Some(family) => write_attributes(bytes, family, kind_of_code(kind), records),
+    match contents_inside(kind) {
+        Some(contents) => write_attributes(bytes, contents, records),
         None => LinkinfoListResult {
             error: NO_ERROR,
             place: 0,
@@ -292,17 +331,17 @@ pub(crate) fn write_inside<R: AttributeRecord>(
     }
 }
 
-/// Writes the attributes in data of a kind, or in port data of a port kind, into the array: as many
-/// as it has room for, up to the first without an accepted header. There are none if such data is
-/// opaque bytes, and none for a number that is no kind and no port kind.
+/// Writes the attributes in data of a kind, in port data of a port kind, or in a list in data, into
+/// the array: as many as it has room for, up to the first without an accepted header. There are
+/// none if such data is opaque bytes, and none for a number of no kind and no list.
 #[unsafe(no_mangle)]
 pub extern "C" fn linkinfo_attributes(
     bytes: &[u8],
     kind: u16,
     attributes: &mut [LinkinfoAttribute],
 ) -> LinkinfoListResult
-    ensures { WritesRecords (attributes_inside (family_inside kind) (kind_of_code kind) bytes.now)
-        (given_inside (family_inside kind) bytes.now) bytes.now attributes.old attributes.new
+    ensures { WritesRecords (attributes_inside (contents_inside kind) bytes.now)
+        (given_inside (contents_inside kind) bytes.now) bytes.now attributes.old attributes.new
         result }
 {
     write_inside(bytes, kind, attributes)

@@ -1,12 +1,14 @@
-//! The numbers by which C knows families, causes, kinds, port kinds and shapes.
+//! The numbers by which C knows families, causes, kinds, port kinds, lists in data and shapes.
 
 ghost use Rattle.std.specs.Prelude.{◌≡◌};
 ghost use Rattle.linkinfo_c.specs.Codes.{
   cause_of_code,
   family_code,
   family_of_code,
+  family_of_list,
   kind_code,
   kind_of_code,
+  list_code,
   port_kind_code,
   port_kind_of_code,
   shape_code,
@@ -79,6 +81,8 @@ macro_rules! families {
             CanTdc = 41,
             CanCtrlModeExt = 42,
             CanPwm = 43,
+            Ovpn = 44,
+            Ppp = 45,
             // End: written by tables/generate.
         }
     };
@@ -196,6 +200,47 @@ pub(crate) fn port_kind_of_code(code: u16) -> Option<PortTag>
     ensures { result ≡ port_kind_of_code code }
 {
     port_kinds!(code of_code)
+}
+
+/// The code of lists of IPv4 addresses.
+pub(crate) const V4_LIST: u16 = 512;
+
+/// The code of lists of IPv6 addresses.
+pub(crate) const V6_LIST: u16 = 513;
+
+/// The code of lists of a family, which is 512 more than that of the family. It is 0 for a family
+/// of which no other one has lists.
+pub(crate) fn list_code(family: Family) -> u16
+    ensures { result ≡ list_code family }
+{
+    match family {
+        // Begin: written by tables/generate from tables/families (lists).
+        Family::VlanQosMapping => 550,
+        Family::BondAdInfo => 551,
+        Family::BridgeQuerierState => 552,
+        Family::CanTdc => 553,
+        Family::CanCtrlModeExt => 554,
+        Family::CanPwm => 555,
+        // End: written by tables/generate.
+        _ => 0,
+    }
+}
+
+/// The family of the lists of a code, or `None` if no such lists have it.
+pub(crate) fn family_of_list(code: u16) -> Option<Family>
+    ensures { result ≡ family_of_list code }
+{
+    match code {
+        // Begin: written by tables/generate from tables/families (of lists).
+        550 => Some(Family::VlanQosMapping),
+        551 => Some(Family::BondAdInfo),
+        552 => Some(Family::BridgeQuerierState),
+        553 => Some(Family::CanTdc),
+        554 => Some(Family::CanCtrlModeExt),
+        555 => Some(Family::CanPwm),
+        // End: written by tables/generate.
+        _ => None,
+    }
 }
 
 /// The cause of a number, as `Cause::number` gives it, or `None` if no cause has it.

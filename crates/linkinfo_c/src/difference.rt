@@ -2,6 +2,7 @@
 
 ghost use Rattle.std.specs.Prelude.{◌≡◌};
 ghost use Rattle.linkinfo_data.specs.BytesLayer.{bytes_layer};
+ghost use Rattle.linkinfo_data.specs.TypedLayer.{typed_layer};
 ghost use Rattle.linkinfo.specs.Comparing.{placed_answer};
 ghost use Rattle.linkinfo.specs.Difference.{strings_difference};
 ghost use Rattle.linkinfo.specs.Strings.{reading};
@@ -10,7 +11,7 @@ ghost use Rattle.linkinfo_c.specs.Difference.{difference_record, differing, reje
 
 use crate::codes::family_code;
 use crate::error::{LinkinfoError, NO_ERROR, error_record};
-use linkinfo::{DecodeError, Difference, ErrorIn, first_difference};
+use linkinfo::{DecodeError, Difference, ErrorIn, first_difference, typed};
 
 /// `struct linkinfo_difference`: whether two lists are equivalent, and the first pair of attributes
 /// in which they differ.
@@ -97,6 +98,18 @@ fn difference_record(answer: Result<Option<Difference>, ErrorIn>) -> LinkinfoDif
 /// Returns whether two lists are equivalent, or the first pair of attributes in which they differ.
 #[unsafe(no_mangle)]
 pub extern "C" fn linkinfo_first_difference(a: &[u8], b: &[u8]) -> LinkinfoDifference
+    ensures answer { result
+        ≡ difference_record (placed_answer (reading typed_layer a.now) (reading typed_layer b.now)
+        (strings_difference typed_layer a.now b.now)) }
+    ensures cause { IsReturnedCode result.error.cause }
+{
+    difference_record(typed::first_difference(a, b))
+}
+
+/// Returns what `linkinfo_first_difference` does, over the layer that keeps attributes of bonds,
+/// bridges and their like verbatim.
+#[unsafe(no_mangle)]
+pub extern "C" fn linkinfo_first_difference_opaque(a: &[u8], b: &[u8]) -> LinkinfoDifference
     ensures answer { result
         ≡ difference_record (placed_answer (reading bytes_layer a.now) (reading bytes_layer b.now)
         (strings_difference bytes_layer a.now b.now)) }

@@ -11,4 +11,5 @@ pub mod error;
 pub mod items;
 pub mod texts;
 pub mod unmet;
+pub mod usage;
 pub mod values;

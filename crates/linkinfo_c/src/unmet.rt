@@ -2,6 +2,7 @@
 
 ghost use Rattle.std.specs.Prelude.{◌≡◌};
 ghost use Rattle.linkinfo_data.specs.BytesLayer.{bytes_layer};
+ghost use Rattle.linkinfo_data.specs.TypedLayer.{typed_layer};
 ghost use Rattle.linkinfo.specs.Strings.{reading};
 ghost use Rattle.linkinfo.specs.Unmet.{strings_unmet, unmet_answer};
 ghost use Rattle.linkinfo_c.specs.Causes.{IsReturnedCode};
@@ -9,7 +10,7 @@ ghost use Rattle.linkinfo_c.specs.Unmet.{lacking, rejected, unmet_record};
 
 use crate::codes::family_code;
 use crate::error::{LinkinfoError, NO_ERROR, error_record};
-use linkinfo::{DecodeError, ErrorIn, Unmet, first_unmet};
+use linkinfo::{DecodeError, ErrorIn, Unmet, first_unmet, typed};
 
 /// `struct linkinfo_unmet`: whether a link has all attributes of a request, and the first one that
 /// it lacks.
@@ -92,6 +93,18 @@ fn unmet_record(answer: Result<Option<Unmet>, ErrorIn>) -> LinkinfoUnmet
 /// one that it lacks.
 #[unsafe(no_mangle)]
 pub extern "C" fn linkinfo_first_unmet(have: &[u8], want: &[u8]) -> LinkinfoUnmet
+    ensures answer { result
+        ≡ unmet_record (unmet_answer (reading typed_layer have.now) (reading typed_layer want.now)
+        (strings_unmet typed_layer have.now want.now)) }
+    ensures cause { IsReturnedCode result.error.cause }
+{
+    unmet_record(typed::first_unmet(have, want))
+}
+
+/// Returns what `linkinfo_first_unmet` does, over the layer that keeps attributes of bonds, bridges
+/// and their like verbatim.
+#[unsafe(no_mangle)]
+pub extern "C" fn linkinfo_first_unmet_opaque(have: &[u8], want: &[u8]) -> LinkinfoUnmet
     ensures answer { result
         ≡ unmet_record (unmet_answer (reading bytes_layer have.now) (reading bytes_layer want.now)
         (strings_unmet bytes_layer have.now want.now)) }

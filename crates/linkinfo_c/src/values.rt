@@ -3,11 +3,12 @@
 ghost use Rattle.std.specs.Prelude.{◌≡◌, ◌≤◌, length};
 ghost use Rattle.linkinfo_shapes.specs.Data.{value_of};
 ghost use Rattle.linkinfo_c.specs.Arrays.{WritesRecords};
-ghost use Rattle.linkinfo_c.specs.Attributes.{family_inside, given_inside};
-ghost use Rattle.linkinfo_c.specs.Codes.{kind_of_code};
+ghost use Rattle.linkinfo_c.specs.Attributes.{contents_inside, given_inside};
 ghost use Rattle.linkinfo_c.specs.Values.{
   address_octets,
   address_record,
+  bytes_if,
+  list_record,
   value_at,
   value_in,
   value_record,
@@ -15,7 +16,7 @@ ghost use Rattle.linkinfo_c.specs.Values.{
 };
 
 use crate::attributes::{AttributeRecord, datum_in, write_inside};
-use crate::codes::shape_code;
+use crate::codes::{V4_LIST, V6_LIST, list_code, shape_code};
 use crate::items::LinkinfoListResult;
 use linkinfo::NlaBuffer;
 use linkinfo::families::{Datum, Shape};
@@ -54,8 +55,8 @@ pub struct LinkinfoValue {
     pub number: u64,
     /// The value, if it is a signed number.
     pub signed_number: i64,
-    /// The number of bytes of a text without the closing NUL, of an address, of a list or of a
-    /// peer.
+    /// The number of bytes of a text without the closing NUL, of an address, of a list, or of a
+    /// payload that is bytes.
     pub len: usize,
     /// The octets of an address in network byte order, followed by zeros.
     pub octets: [u8; 16],
@@ -65,6 +66,9 @@ pub struct LinkinfoValue {
     pub second: u32,
     /// The type of the value, `enum linkinfo_value_type`: it names the members that have the value.
     pub value_type: u32,
+    /// The code of a list, `enum linkinfo_list_kind`, which is the kind of its contents; 0 of a
+    /// list of attributes of the same family.
+    pub list_kind: u16,
     /// The truth value; true for an attribute whose presence is its value.
     pub truth: bool,
 }
@@ -93,6 +97,7 @@ const NO_VALUE: LinkinfoValue = LinkinfoValue {
     first: 0,
     second: 0,
     value_type: NONE,
+    list_kind: 0,
     truth: false,
 };
 
@@ -166,25 +171,45 @@ fn value_record(datum: Datum<'_>) -> LinkinfoValue
     }
 }
 
+/// The record of a payload that is a list, with the code of such lists.
+fn list_record(list_kind: u16, payload: &[u8]) -> LinkinfoValue
+    ensures { result ≡ list_record list_kind payload.now }
+{
+    LinkinfoValue {
+        value_type: LIST,
+        list_kind,
+        len: payload.len(),
+        ..NO_VALUE
+    }
+}
+
+/// The record of a payload that is bytes, if its shape accepts so many.
+fn bytes_if(is_accepted: bool, payload: &[u8]) -> LinkinfoValue
+    ensures { result ≡ bytes_if is_accepted payload.now }
+{
+    if is_accepted {
+        value_record(Datum::Bytes(payload))
+    } else {
+        NO_VALUE
+    }
+}
+
 /// The record of the value of a payload whose type has this shape or none.
 fn value_in(shape: Option<Shape>, payload: &[u8]) -> LinkinfoValue
     ensures { result ≡ value_in shape payload.now }
 {
     match shape {
-        Some(Shape::SelfList | Shape::Nested(_) | Shape::V4List | Shape::V6List) => LinkinfoValue {
-            value_type: LIST,
-            len: payload.len(),
-            ..NO_VALUE
-        },
-        Some(
-            Shape::Peer
-            | Shape::BridgeId
-            | Shape::LePair16
-            | Shape::Le32x8
-            | Shape::CanBitTimingConst
-            | Shape::Le16s
-            | Shape::Le32s,
-        ) => value_record(Datum::Bytes(payload)),
+        Some(Shape::SelfList) => list_record(0, payload),
+        Some(Shape::Nested(family)) => list_record(list_code(family), payload),
+        Some(Shape::V4List) => list_record(V4_LIST, payload),
+        Some(Shape::V6List) => list_record(V6_LIST, payload),
+        Some(Shape::Peer) => bytes_if(true, payload),
+        Some(Shape::BridgeId) => bytes_if(payload.len() == 8, payload),
+        Some(Shape::LePair16) => bytes_if(payload.len() == 4, payload),
+        Some(Shape::Le32x8) => bytes_if(payload.len() == 32, payload),
+        Some(Shape::CanBitTimingConst) => bytes_if(payload.len() == 48, payload),
+        Some(Shape::Le16s) => bytes_if(payload.len() % 2 == 0, payload),
+        Some(Shape::Le32s) => bytes_if(payload.len() % 4 == 0, payload),
         _ => match datum_in(shape, payload) {
             Some(datum) => value_record(datum),
             None => NO_VALUE,
@@ -210,17 +235,17 @@ impl AttributeRecord for LinkinfoValuedAttribute {
     }
 }
 
-/// Writes the attributes in data of a kind, or in port data of a port kind, each with its value,
-/// into the array: as many as it has room for. The attributes, their number and the error are those
-/// of `linkinfo_attributes`.
+/// Writes the attributes in data of a kind, in port data of a port kind, or in a list in data, each
+/// with its value, into the array: as many as it has room for. The attributes, their number and the
+/// error are those of `linkinfo_attributes`.
 #[unsafe(no_mangle)]
 pub extern "C" fn linkinfo_values(
     bytes: &[u8],
     kind: u16,
     attributes: &mut [LinkinfoValuedAttribute],
 ) -> LinkinfoListResult
-    ensures { WritesRecords (values_inside (family_inside kind) (kind_of_code kind) bytes.now)
-        (given_inside (family_inside kind) bytes.now) bytes.now attributes.old attributes.new
+    ensures { WritesRecords (values_inside (contents_inside kind) bytes.now)
+        (given_inside (contents_inside kind) bytes.now) bytes.now attributes.old attributes.new
         result }
 {
     write_inside(bytes, kind, attributes)

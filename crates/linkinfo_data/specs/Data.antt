@@ -1,5 +1,5 @@
 -- Data of links: what a payload means under the kind of the link.
-use Rattle.std.specs.Prelude.{refl}
+use Rattle.std.specs.Prelude.{◌≡◌, Bool, true, false, refl}
 use Rattle.linkinfo_numbers.specs.declared.tags.KindTag.{KindTag}
 use Rattle.linkinfo_numbers.specs.declared.tags.KindTag.TheVariants as tag
 use Rattle.linkinfo_data.specs.declared.data.DataFamily.{DataFamily}
@@ -10,15 +10,15 @@ use Rattle.linkinfo_data.specs.declared.peers.PeeredFamily.TheVariants as peered
 use Rattle.linkinfo_data.specs.declared.tunnels.TunnelFamily.TheVariants as tunnel
 use Rattle.linkinfo_data.specs.Layered.{DataOf, types_of}
 use Rattle.linkinfo_data.specs.declared.info_data.InfoDataOf.TheVariants as info
-use Rattle.linkinfo_data.specs.DeviceData.{devices_data_of, devices_known, devices_refined}
+use Rattle.linkinfo_data.specs.DeviceData.{devices_data_of, devices_known, devices_equal}
 use Rattle.linkinfo_table.specs.Layers.{Families, IsLayer, Types}
 use Rattle.linkinfo_data.specs.Known.{IsKnown}
 use Rattle.linkinfo_data.specs.LowerData.{lower_data_of, lower_known, lower_refined}
 use Rattle.linkinfo_data.specs.Payloads.{Payload, as_bytes}
-use Rattle.linkinfo_data.specs.PeerData.{peers_data_of, peers_known, peers_refined}
+use Rattle.linkinfo_data.specs.PeerData.{peers_data_of, peers_known, peers_equal}
 use Rattle.linkinfo_data.specs.PeerFamilies.{peer_families}
-use Rattle.linkinfo_data.specs.Refined.{Refines, bytes_again}
-use Rattle.linkinfo_data.specs.TunnelData.{tunnels_data_of, tunnels_known, tunnels_refined}
+use Rattle.linkinfo_data.specs.Refined.{AreEqual, Refines, bytes_equal, equal_refines}
+use Rattle.linkinfo_data.specs.TunnelData.{tunnels_data_of, tunnels_known, tunnels_equal}
 
 -- the family of a kind's data
 abbrev pub family_of : KindTag → DataFamily
@@ -81,10 +81,32 @@ data_known layer (of.Tunnel f) = tunnels_known (types_of layer) f
 data_known layer (of.Peered f) = peers_known (types_of layer) layer.peer f
 data_known layer of.Raw = λ p. refl
 
+-- ---- beside the layer of the same peer, whose families keep each attribute
+
+-- a layer supplies the family
+abbrev pub is_supplied : DataFamily → Bool
+is_supplied (of.Lower f) = true
+is_supplied _ = false
+
+-- every other family has the same answers
+pub data_equal : {t : Types} (layer : Families t) (f : DataFamily) → is_supplied f ≡ false →
+    AreEqual (data_of layer f) (data_of (peer_families layer.peer) f)
+data_equal layer (of.Lower f) e = absurd cc
+data_equal layer (of.Device f) e = devices_equal (types_of layer) f
+data_equal layer (of.Tunnel f) e = tunnels_equal (types_of layer) f
+data_equal layer (of.Peered f) e = peers_equal (types_of layer) layer.peer f
+data_equal layer of.Raw e = bytes_equal _ _
+
+equal_refined : {t : Types} (layer : Families t) (f : DataFamily) → is_supplied f ≡ false →
+    Refines (data_of layer f) (data_of (peer_families layer.peer) f)
+equal_refined layer f e =
+    equal_refines (data_of layer f) (data_of (peer_families layer.peer) f) (data_known layer f)
+    (data_known (peer_families layer.peer) f) (data_equal layer f e)
+
 pub data_refined : {t : Types} (layer : Families t) → IsLayer layer → (f : DataFamily) →
     Refines (data_of layer f) (data_of (peer_families layer.peer) f)
 data_refined layer is (of.Lower f) = lower_refined layer is f
-data_refined layer is (of.Device f) = devices_refined (types_of layer) f
-data_refined layer is (of.Tunnel f) = tunnels_refined (types_of layer) f
-data_refined layer is (of.Peered f) = peers_refined (types_of layer) layer.peer f
-data_refined layer is of.Raw = bytes_again _ _
+data_refined layer is (of.Device f) = equal_refined layer (of.Device f) refl
+data_refined layer is (of.Tunnel f) = equal_refined layer (of.Tunnel f) refl
+data_refined layer is (of.Peered f) = equal_refined layer (of.Peered f) refl
+data_refined layer is of.Raw = equal_refined layer of.Raw refl

@@ -9,7 +9,7 @@ use Rattle.linkinfo_data.specs.Known.{IsKnown, list_is_known}
 use Rattle.linkinfo_data.specs.Payloads.{Payload, as_list}
 use Rattle.linkinfo_data.specs.Plain.{plain}
 use Rattle.linkinfo_data.specs.PeerLayer.{peer_types}
-use Rattle.linkinfo_data.specs.Refined.{Refines, list_again}
+use Rattle.linkinfo_data.specs.Refined.{AreEqual, list_equal}
 
 abbrev pub devices_data_of : (t : Types) → DeviceFamily → Payload (DataOf t)
 -- Begin: written by tables/generate from tables/kinds (data).
@@ -44,17 +44,17 @@ devices_known t of.RmNet = list_is_known plain.rm_net (λ xs. info.RmNet xs)
 
 -- End: written by tables/generate.
 
-pub devices_refined : (t : Types) (f : DeviceFamily) →
-    Refines (devices_data_of t f) (devices_data_of (peer_types t.Peer) f)
--- Begin: written by tables/generate from tables/kinds (refined).
-devices_refined t of.IpVlan = list_again plain.ip_vlan _ _
-devices_refined t of.IpVtap = list_again plain.ip_vtap _ _
-devices_refined t (of.MacVlan around) = list_again (plain.mac_vlan around) _ _
-devices_refined t (of.MacVtap around) = list_again (plain.mac_vtap around) _ _
-devices_refined t of.Vrf = list_again plain.vrf _ _
-devices_refined t of.Ipoib = list_again plain.ipoib _ _
-devices_refined t of.Xfrm = list_again plain.xfrm _ _
-devices_refined t of.MacSec = list_again plain.mac_sec _ _
-devices_refined t of.RmNet = list_again plain.rm_net _ _
+pub devices_equal : (t : Types) (f : DeviceFamily) →
+    AreEqual (devices_data_of t f) (devices_data_of (peer_types t.Peer) f)
+-- Begin: written by tables/generate from tables/kinds (beside).
+devices_equal t of.IpVlan = list_equal plain.ip_vlan _ _
+devices_equal t of.IpVtap = list_equal plain.ip_vtap _ _
+devices_equal t (of.MacVlan around) = list_equal (plain.mac_vlan around) _ _
+devices_equal t (of.MacVtap around) = list_equal (plain.mac_vtap around) _ _
+devices_equal t of.Vrf = list_equal plain.vrf _ _
+devices_equal t of.Ipoib = list_equal plain.ipoib _ _
+devices_equal t of.Xfrm = list_equal plain.xfrm _ _
+devices_equal t of.MacSec = list_equal plain.mac_sec _ _
+devices_equal t of.RmNet = list_equal plain.rm_net _ _
 
 -- End: written by tables/generate.

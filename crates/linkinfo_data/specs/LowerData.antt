@@ -39,7 +39,7 @@ lower_known layer of.Dsa = list_is_known layer.dsa (λ xs. info.Dsa xs)
 
 pub lower_refined : {t : Types} (layer : Families t) → IsLayer layer → (f : LowerFamily) →
     Refines (lower_data_of layer f) (lower_data_of (peer_families layer.peer) f)
--- Begin: written by tables/generate from tables/kinds (refined).
+-- Begin: written by tables/generate from tables/kinds (beside).
 lower_refined layer is of.Bridge =
     list_refined layer.bridge plain.bridge (opaque_verbatim _ _) is.bridge.laws _ _
 lower_refined layer is of.Tun =

@@ -11,7 +11,7 @@ use Rattle.linkinfo_data.specs.Known.{IsKnown, first_is_known, list_is_known}
 use Rattle.linkinfo_data.specs.Payloads.{Payload, as_list, as_first}
 use Rattle.linkinfo_data.specs.Plain.{plain}
 use Rattle.linkinfo_data.specs.PeerLayer.{peer_types}
-use Rattle.linkinfo_data.specs.Refined.{Refines, first_again, list_again}
+use Rattle.linkinfo_data.specs.Refined.{AreEqual, first_equal, list_equal}
 
 abbrev pub peers_data_of : (t : Types) → Ghosts t.Peer → PeeredFamily → Payload (DataOf t)
 -- Begin: written by tables/generate from tables/kinds (data).
@@ -38,15 +38,15 @@ peers_known t peer of.Pfcp = list_is_known plain.pfcp (λ xs. info.Pfcp xs)
 
 -- End: written by tables/generate.
 
-pub peers_refined : (t : Types) (peer : Ghosts t.Peer) (f : PeeredFamily) →
-    Refines (peers_data_of t peer f) (peers_data_of (peer_types t.Peer) peer f)
--- Begin: written by tables/generate from tables/kinds (refined).
-peers_refined t peer of.Veth = first_again (veth_members peer) _ _
-peers_refined t peer of.Wireguard = list_again plain.wireguard _ _
-peers_refined t peer of.Netkit = list_again (netkit_members peer) _ _
-peers_refined t peer of.Vxcan = first_again (vxcan_members peer) _ _
-peers_refined t peer of.BatAdv = list_again plain.bat_adv _ _
-peers_refined t peer of.Wwan = list_again plain.wwan _ _
-peers_refined t peer of.Pfcp = list_again plain.pfcp _ _
+pub peers_equal : (t : Types) (peer : Ghosts t.Peer) (f : PeeredFamily) →
+    AreEqual (peers_data_of t peer f) (peers_data_of (peer_types t.Peer) peer f)
+-- Begin: written by tables/generate from tables/kinds (beside).
+peers_equal t peer of.Veth = first_equal (veth_members peer) _ _
+peers_equal t peer of.Wireguard = list_equal plain.wireguard _ _
+peers_equal t peer of.Netkit = list_equal (netkit_members peer) _ _
+peers_equal t peer of.Vxcan = first_equal (vxcan_members peer) _ _
+peers_equal t peer of.BatAdv = list_equal plain.bat_adv _ _
+peers_equal t peer of.Wwan = list_equal plain.wwan _ _
+peers_equal t peer of.Pfcp = list_equal plain.pfcp _ _
 
 -- End: written by tables/generate.

@@ -1,5 +1,5 @@
 -- Data of ports: what a payload means under the port kind.
-use Rattle.std.specs.Prelude.{ℕ, List, map, refl}
+use Rattle.std.specs.Prelude.{◌≡◌, ℕ, Bool, true, false, List, map, refl}
 use Rattle.nla_frame.specs.Attribute.{Attribute, list_string}
 use Rattle.linkinfo_numbers.specs.declared.tags.PortTag.{PortTag}
 use Rattle.linkinfo_numbers.specs.declared.tags.PortTag.TheVariants as tag
@@ -13,9 +13,11 @@ use Rattle.linkinfo_data.specs.Payloads.{Payload, as_list, as_bytes}
 use Rattle.linkinfo_data.specs.PeerFamilies.{peer_families}
 use Rattle.linkinfo_data.specs.Plain.{plain}
 use Rattle.linkinfo_data.specs.Refined.{
+  AreEqual,
   Refines,
-  bytes_again,
-  list_again,
+  bytes_equal,
+  equal_refines,
+  list_equal,
   list_refined,
   opaque_verbatim,
 }
@@ -56,12 +58,35 @@ port_known layer of.Vrf = list_is_known plain.vrf_port (λ xs. info.VrfPort xs)
 port_known layer of.Team = list_is_known plain.team_port (λ xs. info.TeamPort xs)
 port_known layer of.Raw = λ p. refl
 
+-- ---- beside the layer of the same peer, whose families keep each attribute
+
+-- a layer supplies the family
+abbrev pub is_port_supplied : PortFamily → Bool
+is_port_supplied of.Bond = true
+is_port_supplied of.Bridge = true
+is_port_supplied _ = false
+
+-- every other family has the same answers
+pub port_equal : {t : Types} (layer : Families t) (f : PortFamily) → is_port_supplied f ≡ false →
+    AreEqual (port_data_of layer f) (port_data_of (peer_families layer.peer) f)
+port_equal layer of.Bond e = absurd cc
+port_equal layer of.Bridge e = absurd cc
+port_equal layer of.Vrf e = list_equal plain.vrf_port _ _
+port_equal layer of.Team e = list_equal plain.team_port _ _
+port_equal layer of.Raw e = bytes_equal _ _
+
+equal_refined : {t : Types} (layer : Families t) (f : PortFamily) → is_port_supplied f ≡ false →
+    Refines (port_data_of layer f) (port_data_of (peer_families layer.peer) f)
+equal_refined layer f e =
+    equal_refines (port_data_of layer f) (port_data_of (peer_families layer.peer) f)
+    (port_known layer f) (port_known (peer_families layer.peer) f) (port_equal layer f e)
+
 pub port_refined : {t : Types} (layer : Families t) → IsLayer layer → (f : PortFamily) →
     Refines (port_data_of layer f) (port_data_of (peer_families layer.peer) f)
 port_refined layer is of.Bond =
     list_refined layer.bond_port plain.bond_port (opaque_verbatim _ _) is.bond_port.laws _ _
 port_refined layer is of.Bridge =
     list_refined layer.bridge_port plain.bridge_port (opaque_verbatim _ _) is.bridge_port.laws _ _
-port_refined layer is of.Vrf = list_again plain.vrf_port _ _
-port_refined layer is of.Team = list_again plain.team_port _ _
-port_refined layer is of.Raw = bytes_again _ _
+port_refined layer is of.Vrf = equal_refined layer of.Vrf refl
+port_refined layer is of.Team = equal_refined layer of.Team refl
+port_refined layer is of.Raw = equal_refined layer of.Raw refl

@@ -17,25 +17,31 @@ use Rattle.std.specs.Prelude.{
   refl,
 }
 use Rattle.std.specs.Str.{bytes_eq}
-use Rattle.std.proofs.Common.{inl, inr, subst, sym}
+use Rattle.std.proofs.Common.{inl, inr, subst, sym, ◌∙◌}
 use Rattle.std.proofs.lemmas.Bool.{and_parts, eqb-true}
 use Rattle.std.proofs.lemmas.Slice.Eq.{bytes_eq-Decides}
+use Rattle.nla_frame.specs.Answers.{verdict}
 use Rattle.nla_frame.specs.Attribute.{Attribute, IsAttribute, IsBytes}
 use Rattle.nla_frame.specs.NlaItems.{nla_items}
 use Rattle.nla_frame.specs.declared.error.DecodeError.{DecodeError}
 use Rattle.nla_frame.specs.declared.error.Family.{Family}
 use Rattle.linkinfo_table.specs.Contents.{Contents, ListOf, Listed, NoList, listed, single_value}
 use Rattle.linkinfo_table.specs.EachAttribute.{list_accepts, list_alike}
-use Rattle.linkinfo_table.specs.Lists.{◌>>=◌, first_meaning, values}
+use Rattle.linkinfo_table.specs.Lists.{◌>>=◌, values}
 use Rattle.linkinfo_table.specs.Members.{IsFamily, Members}
 use Rattle.linkinfo_table.specs.Rows.{alike_in, meaning_in}
 use Rattle.linkinfo_data.specs.FamiliesLawful.{opaque_members}
+use Rattle.linkinfo_data.specs.Known.{IsKnown}
 use Rattle.linkinfo_data.specs.Payloads.{Payload, as_bytes, as_first, as_list}
 
--- payloads with the same contents, which are equivalent to the same payloads
+-- payloads with the same answers, whatever the types of their values
 pub record AreEqual {X Y : Type 0} (fine : Payload X) (coarse : Payload Y) : Type 0 where
   pub contents : fine.contents ≡ coarse.contents
+  pub verdicts : (p : List ℕ) → fine.verdicts p ≡ coarse.verdicts p
+  pub headers : (p : List ℕ) → fine.headers p ≡ coarse.headers p
   pub alike : (p q : List ℕ) → fine.alike p q ≡ coarse.alike p q
+  pub needs_memory : (p : List ℕ) → fine.needs_memory p ≡ coarse.needs_memory p
+  pub canonical : (p : List ℕ) → fine.canonical p ≡ coarse.canonical p
 
 -- lists of attributes, beside lists of single values, each of which is equivalent to itself alone
 pub record AreLists {X Y : Type 0} (fine : Payload X) (coarse : Payload Y) : Type 0 where
@@ -64,42 +70,57 @@ is_set_in (ListOf l inside) = l.is_set
 
 -- ---- one family under two variants
 
-ok_under : {A X : Type 0} (r : Result A DecodeError) (label : A → X) →
-    IsOk (r >>= λ x. Ok (label x)) → IsOk r
-ok_under (Ok x) label h = refl
-ok_under (Err e) label h = absurd cc
-
-ok_labelled : {A X : Type 0} (r : Result A DecodeError) (label : A → X) → IsOk r →
-    IsOk (r >>= λ x. Ok (label x))
-ok_labelled (Ok x) label h = refl
-ok_labelled (Err e) label h = absurd cc
-
-pub list_again : {A X Y : Type 0} (f : Members A) (x : List A → X) (y : List A → Y) →
-    Refines (as_list f x) (as_list f y)
-list_again f x y = record {
-  accepts = λ p h.
-      ok_labelled (values f.meaning (nla_items p)) y
-      (ok_under (values f.meaning (nla_items p)) x h);
-  alike = λ p q b h e. e;
-  contains = inl (record { contents = refl; alike = λ p q. refl });
+pub list_equal : {A X Y : Type 0} (f : Members A) (x : List A → X) (y : List A → Y) →
+    AreEqual (as_list f x) (as_list f y)
+list_equal f x y = record {
+  contents = refl;
+  verdicts = λ p. refl;
+  headers = λ p. refl;
+  alike = λ p q. refl;
+  needs_memory = λ p. refl;
+  canonical = λ p. refl;
 }
 
-pub first_again : {A X Y : Type 0} (f : Members A) (x : A → X) (y : A → Y) →
-    Refines (as_first f x) (as_first f y)
-first_again f x y = record {
-  accepts = λ p h.
-      ok_labelled (first_meaning f.meaning (nla_items p)) y
-      (ok_under (first_meaning f.meaning (nla_items p)) x h);
-  alike = λ p q b h e. e;
-  contains = inl (record { contents = refl; alike = λ p q. refl });
+pub first_equal : {A X Y : Type 0} (f : Members A) (x : A → X) (y : A → Y) →
+    AreEqual (as_first f x) (as_first f y)
+first_equal f x y = record {
+  contents = refl;
+  verdicts = λ p. refl;
+  headers = λ p. refl;
+  alike = λ p q. refl;
+  needs_memory = λ p. refl;
+  canonical = λ p. refl;
 }
 
-pub bytes_again : {X Y : Type 0} (x : List ℕ → X) (y : List ℕ → Y) →
-    Refines (as_bytes x) (as_bytes y)
-bytes_again x y = record {
-  accepts = λ p h. refl;
-  alike = λ p q b h e. e;
-  contains = inl (record { contents = refl; alike = λ p q. refl });
+pub bytes_equal : {X Y : Type 0} (x : List ℕ → X) (y : List ℕ → Y) →
+    AreEqual (as_bytes x) (as_bytes y)
+bytes_equal x y = record {
+  contents = refl;
+  verdicts = λ p. refl;
+  headers = λ p. refl;
+  alike = λ p q. refl;
+  needs_memory = λ p. refl;
+  canonical = λ p. refl;
+}
+
+-- what one verdict accepts an equal one accepts
+ok_verdict : {X : Type 0} (r : Result X DecodeError) → IsOk r → IsOk (verdict r)
+ok_verdict (Ok x) h = refl
+ok_verdict (Err e) h = absurd cc
+
+verdict_ok : {X : Type 0} (r : Result X DecodeError) → IsOk (verdict r) → IsOk r
+verdict_ok (Ok x) h = refl
+verdict_ok (Err e) h = absurd cc
+
+pub equal_refines : {X Y : Type 0} (fine : Payload X) (coarse : Payload Y) → IsKnown fine →
+    IsKnown coarse → AreEqual fine coarse → Refines fine coarse
+equal_refines fine coarse known same equal = record {
+  accepts = λ p h.
+      verdict_ok (coarse.means p)
+      (subst (λ (r : Result (Unit {0}) DecodeError). IsOk r)
+      (known p ∙ equal.verdicts p ∙ sym (same p)) (ok_verdict (fine.means p) h));
+  alike = λ p q b h e. equal.alike p q ∙ e;
+  contains = inl equal;
 }
 
 -- ---- a family that a layer supplies, beside one that keeps each attribute
@@ -125,6 +146,16 @@ opaque_verbatim number f = record {
   single = λ n. refl;
   in_order = refl;
 }
+
+ok_under : {A X : Type 0} (r : Result A DecodeError) (label : A → X) →
+    IsOk (r >>= λ x. Ok (label x)) → IsOk r
+ok_under (Ok x) label h = refl
+ok_under (Err e) label h = absurd cc
+
+ok_labelled : {A X : Type 0} (r : Result A DecodeError) (label : A → X) → IsOk r →
+    IsOk (r >>= λ x. Ok (label x))
+ok_labelled (Ok x) label h = refl
+ok_labelled (Err e) label h = absurd cc
 
 module _ {A B : Type 0} (fine : Members A) (coarse : Members B) (verbatim : IsVerbatim coarse) where
   itself : IsFamily fine → (a : Attribute) → IsAttribute a → IsOk (fine.meaning a) →

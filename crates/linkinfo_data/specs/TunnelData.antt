@@ -8,7 +8,7 @@ use Rattle.linkinfo_data.specs.Known.{IsKnown, list_is_known}
 use Rattle.linkinfo_data.specs.Payloads.{Payload, as_list}
 use Rattle.linkinfo_data.specs.Plain.{plain}
 use Rattle.linkinfo_data.specs.PeerLayer.{peer_types}
-use Rattle.linkinfo_data.specs.Refined.{Refines, list_again}
+use Rattle.linkinfo_data.specs.Refined.{AreEqual, list_equal}
 
 abbrev pub tunnels_data_of : (t : Types) → TunnelFamily → Payload (DataOf t)
 -- Begin: written by tables/generate from tables/kinds (data).
@@ -48,21 +48,21 @@ tunnels_known t of.Ip6ErSpan = list_is_known plain.gre6 (λ xs. info.Ip6ErSpan x
 
 -- End: written by tables/generate.
 
-pub tunnels_refined : (t : Types) (f : TunnelFamily) →
-    Refines (tunnels_data_of t f) (tunnels_data_of (peer_types t.Peer) f)
--- Begin: written by tables/generate from tables/kinds (refined).
-tunnels_refined t of.Vxlan = list_again plain.vxlan _ _
-tunnels_refined t of.GreTap = list_again plain.gre _ _
-tunnels_refined t of.GreTap6 = list_again plain.gre6 _ _
-tunnels_refined t (of.IpTunnel tag) = list_again (plain.ip_tunnel tag) _ _
-tunnels_refined t of.GreTun = list_again plain.gre _ _
-tunnels_refined t of.GreTun6 = list_again plain.gre6 _ _
-tunnels_refined t of.Vti = list_again plain.vti _ _
-tunnels_refined t of.Gtp = list_again plain.gtp _ _
-tunnels_refined t of.Geneve = list_again plain.geneve _ _
-tunnels_refined t of.Amt = list_again plain.amt _ _
-tunnels_refined t of.BareUdp = list_again plain.bare_udp _ _
-tunnels_refined t of.ErSpan = list_again plain.gre _ _
-tunnels_refined t of.Ip6ErSpan = list_again plain.gre6 _ _
+pub tunnels_equal : (t : Types) (f : TunnelFamily) →
+    AreEqual (tunnels_data_of t f) (tunnels_data_of (peer_types t.Peer) f)
+-- Begin: written by tables/generate from tables/kinds (beside).
+tunnels_equal t of.Vxlan = list_equal plain.vxlan _ _
+tunnels_equal t of.GreTap = list_equal plain.gre _ _
+tunnels_equal t of.GreTap6 = list_equal plain.gre6 _ _
+tunnels_equal t (of.IpTunnel tag) = list_equal (plain.ip_tunnel tag) _ _
+tunnels_equal t of.GreTun = list_equal plain.gre _ _
+tunnels_equal t of.GreTun6 = list_equal plain.gre6 _ _
+tunnels_equal t of.Vti = list_equal plain.vti _ _
+tunnels_equal t of.Gtp = list_equal plain.gtp _ _
+tunnels_equal t of.Geneve = list_equal plain.geneve _ _
+tunnels_equal t of.Amt = list_equal plain.amt _ _
+tunnels_equal t of.BareUdp = list_equal plain.bare_udp _ _
+tunnels_equal t of.ErSpan = list_equal plain.gre _ _
+tunnels_equal t of.Ip6ErSpan = list_equal plain.gre6 _ _
 
 -- End: written by tables/generate.

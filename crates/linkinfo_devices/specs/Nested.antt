@@ -89,7 +89,13 @@ use Rattle.linkinfo_table.specs.FamilyRows.{
   find,
   plain_or_absent,
 }
-use Rattle.linkinfo_table.specs.Described.{LookupContains, flat_contains, list_counts}
+use Rattle.linkinfo_table.specs.Described.{
+  AcceptsBy,
+  LookupContains,
+  flat_accepts,
+  flat_contains,
+  list_counts,
+}
 use Rattle.linkinfo_table.specs.ErrorMemory.{IsOwnCertain}
 use Rattle.linkinfo_table.specs.FamilyRowLaws.{owed, table_flat, table_owes}
 use Rattle.linkinfo_table.specs.RowLaws.{rows_quarter}
@@ -326,6 +332,52 @@ module _ {X : Type 0} (f : Family) (other : DefaultNla → X) (attribute : X →
         IsFlat (nested_rows f other attribute label plain c n)
     flat_elsewhere c n h = elsewhere (128 - c) n (λ e. omega (arith, h e))
 
+    -- whether an attribute is accepted agrees with its row
+    level_agrees : (levels n : ℕ) (a : Attribute) → masked a.kind ≡ n →
+        AcceptsBy a
+        (lookup_of (level_rows f other attribute 5 label (λ k. table_row plain k) levels n))
+        (is_ok (meaning_in f other (λ k. level levels k) a))
+    unfolding meaning_in
+    level_agrees levels n a typed =
+        subst (λ (k : ℕ).
+        AcceptsBy a
+        (lookup_of (level_rows f other attribute 5 label (λ m. table_row plain m) levels k))
+        (is_ok (row_meaning f other (level levels (masked a.kind)) a))) typed
+        (at_level levels)
+      where
+        flat : (k : ℕ) →
+            AcceptsBy a (lookup_of (table_row plain k))
+            (is_ok (row_meaning f other (row_of (table_row plain k)) a))
+        flat k = flat_accepts f other (table_row plain k) a (table_flat attribute plain keeps k)
+
+        at_level : (m : ℕ) →
+            AcceptsBy a
+            (lookup_of
+            (level_rows f other attribute 5 label (λ k. table_row plain k) m (masked a.kind)))
+            (is_ok (row_meaning f other (level m (masked a.kind)) a))
+        at_level zero = go (masked a.kind == 5)
+          where
+            go : (b : Bool) →
+                AcceptsBy a
+                (lookup_of (row_if b (Refuses cause.Depth) (table_row plain (masked a.kind))))
+                (is_ok (row_meaning f other
+                (row_of (row_if b (Refuses cause.Depth) (table_row plain (masked a.kind)))) a))
+            go true = refl
+            go false = flat (masked a.kind)
+        at_level (suc m) = go (masked a.kind == 5)
+          where
+            go : (b : Bool) →
+                AcceptsBy a
+                (lookup_of (row_if b (Custom shape.SelfList false
+                (inner_codec f other attribute 5 label (λ k. table_row plain k) (λ k. level m k))
+                label) (table_row plain (masked a.kind))))
+                (is_ok (row_meaning f other (row_of
+                (row_if b (Custom shape.SelfList false
+                (inner_codec f other attribute 5 label (λ k. table_row plain k) (λ k. level m k))
+                label) (table_row plain (masked a.kind)))) a))
+            go true = λ h. absurd h
+            go false = flat (masked a.kind)
+
     -- the contents of a type are what its shape says
     contains_below : (levels n : ℕ) →
         LookupContains f
@@ -338,9 +390,12 @@ module _ {X : Type 0} (f : Family) (other : DefaultNla → X) (attribute : X →
             single_value
         go true = refl
         go false = flat_contains f (table_row plain n) (table_flat attribute plain keeps n)
-    contains_below (suc levels) n = go (n == 5)
+    contains_below (suc levels) n = go (λ k. contains_below levels k) (n == 5)
       where
-        go : (b : Bool) →
+        go : ((k : ℕ) →
+            LookupContains f
+            (lookup_of (level_rows f other attribute 5 label (λ m. table_row plain m) levels k))
+            (contents_below levels k)) → (b : Bool) →
             LookupContains f
             (lookup_of (row_if b (Custom shape.SelfList false
             (inner_codec f other attribute 5 label (λ k. table_row plain k) (λ k. level levels k))
@@ -350,8 +405,15 @@ module _ {X : Type 0} (f : Family) (other : DefaultNla → X) (attribute : X →
             (self_listed f (meaning_in f other (λ k. level levels k))
             (alike_in (λ k. level levels k))) (contents_below levels)
             else single_value)
-        go true = (refl, refl)
-        go false = flat_contains f (table_row plain n) (table_flat attribute plain keeps n)
+        go below true = (
+          (refl, refl),
+          λ k. (
+            lookup_of (level_rows f other attribute 5 label (λ m. table_row plain m) levels k),
+            λ a typed. level_agrees levels k a typed,
+            below k,
+          ),
+        )
+        go below false = flat_contains f (table_row plain n) (table_flat attribute plain keeps n)
 
     pub nested_contains : (c n : ℕ) →
         LookupContains f (lookup_of (nested_rows f other attribute label plain c n))

@@ -11,19 +11,19 @@ use Rattle.linkinfo_table.specs.Labels.{each_keeps}
 use Rattle.linkinfo_devices.specs.declared.rmnet.InfoRmNet.{InfoRmNet}
 use Rattle.linkinfo_devices.specs.declared.rmnet.InfoRmNet.TheVariants.{MuxId, Flags, Other}
 
--- flags, then their mask
-abbrev pub flags_under_mask : ℕ × ℕ → InfoRmNetFlags
-flags_under_mask pair = record { flags = rm_net_flags pair.0; mask = rm_net_flags pair.1 }
+-- both sets of their numbers
+abbrev pub both_sets : ℕ × ℕ → InfoRmNetFlags
+both_sets pair = record { flags = rm_net_flags pair.0; mask = rm_net_flags pair.1 }
 
 abbrev pub rm_net_rows : List (PlainRow InfoRmNet)
 rm_net_rows =
     row 1 Le16 (λ n. MuxId n) ∷
-    row 2 FlagPair (λ pair. Flags (flags_under_mask pair)) ∷
+    row 2 FlagPair (λ pair. Flags (both_sets pair)) ∷
     []
 
 abbrev pub rm_net_attribute : InfoRmNet → Attribute
 rm_net_attribute (MuxId n) = typed 1 Le16 n
-rm_net_attribute (Flags under) = typed 2 FlagPair (under.flags.0, under.mask.0)
+rm_net_attribute (Flags x) = typed 2 FlagPair (x.flags.0, x.mask.0)
 rm_net_attribute (Other nla) = attribute_of nla
 
 pub rm_net_keeps : EachKeeps rm_net_attribute rm_net_rows

@@ -2,7 +2,7 @@
 //! Links of kind `rmnet`.
 
 ghost use Rattle.linkinfo_devices.specs.Rmnet.{
-  flags_under_mask,
+  both_sets,
   rm_net_attribute,
   rm_net_keeps,
   rm_net_rows,
@@ -96,22 +96,22 @@ impl RowFamily for InfoRmNet {
     }
 }
 
-/// Makes flags and their mask from two numbers.
+/// Makes both sets of their numbers.
 fn flags_of(pair: (u32, u32)) -> InfoRmNetFlags
-    ensures { result ≡ flags_under_mask pair }
+    ensures { result ≡ both_sets pair }
 {
     let (flags, mask) = pair;
-    InfoRmNetFlags::new(
-        RmNetFlags::from_bits_retain(flags),
-        RmNetFlags::from_bits_retain(mask),
-    )
+    InfoRmNetFlags {
+        flags: RmNetFlags::from_bits_retain(flags),
+        mask: RmNetFlags::from_bits_retain(mask),
+    }
 }
 
-/// The two numbers of flags and their mask.
-fn pair_of(under: InfoRmNetFlags) -> (u32, u32)
-    ensures { result ≡ (under.flags.0, under.mask.0) }
+/// The numbers of both sets.
+fn pair_of(sets: InfoRmNetFlags) -> (u32, u32)
+    ensures { result ≡ (sets.flags.0, sets.mask.0) }
 {
-    (under.flags.bits(), under.mask.bits())
+    (sets.flags.bits(), sets.mask.bits())
 }
 
 impl TableFamily for InfoRmNet {

@@ -4,6 +4,7 @@
 mod assertions;
 mod data;
 mod emission;
+mod flag_words;
 mod flags;
 mod framing;
 mod kinds;

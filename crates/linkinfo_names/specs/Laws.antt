@@ -16,7 +16,7 @@ use Rattle.std.specs.List.{list_any}
 use Rattle.std.specs.Str.{bytes_eq}
 use Rattle.nla_frame.specs.declared.error.Family.{Family}
 use Rattle.nla_frame.specs.declared.error.Family.TheVariants as family
-use Rattle.linkinfo_shapes.specs.Table.{rows_of}
+use Rattle.linkinfo_shapes.specs.Typed.{typed_rows_of}
 use Rattle.linkinfo_names.specs.Names.{names_of}
 
 -- the types of a family that have a name, in the order of its rows, and these names
@@ -26,17 +26,22 @@ named_types f = map (λ (row : ℕ × List ℕ). row.0) (names_of f)
 abbrev pub all_names : Family → List (List ℕ)
 all_names f = map (λ (row : ℕ × List ℕ). row.1) (names_of f)
 
--- the types of a family that have a shape in the table of all families
-abbrev pub shaped_types : Family → List ℕ
-shaped_types f = map (λ row. row.0) (rows_of f)
-
 -- a type at its place among ascending ones
 abbrev pub with_type : ℕ → List ℕ → List ℕ
 with_type n [] = n ∷ []
 with_type n (m ∷ ms) = if nat_lt m n then m ∷ with_type n ms else n ∷ m ∷ ms
 
--- The types that are not opaque. The list has five. The shape of a tunnel's flags depends on the
--- kind, so it is not in the table.
+-- types in ascending order
+abbrev pub ascending : List ℕ → List ℕ
+ascending [] = []
+ascending (n ∷ ns) = with_type n (ascending ns)
+
+-- the types of a family that have a shape in the table of the typed layer
+abbrev pub shaped_types : Family → List ℕ
+shaped_types f = ascending (map (λ row. row.0) (typed_rows_of f))
+
+-- The types that are not opaque in the typed layer. The list has five. The shape of a tunnel's
+-- flags depends on the kind, so it is not in the table.
 abbrev pub known_types : Family → List ℕ
 known_types family.LinkInfo = 1 ∷ 2 ∷ 3 ∷ 4 ∷ 5 ∷ []
 known_types family.IpTunnel = with_type 8 (shaped_types family.IpTunnel)

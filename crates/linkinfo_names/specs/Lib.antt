@@ -1,3 +1,4 @@
 pub mod Explanation
 pub mod Laws
 pub mod Names
+pub mod Uses

@@ -8,10 +8,22 @@ use Rattle.linkinfo_names.specs.declared.entries.TheConstants.{
   AMT,
   BARE_UDP,
   BAT_ADV,
+  BOND,
+  BOND_AD_INFO,
+  BOND_PORT,
+  BRIDGE,
+  BRIDGE_PORT,
+  BRIDGE_QUERIER_STATE,
+  CAN,
+  CAN_CTRL_MODE_EXT,
+  CAN_PWM,
+  CAN_TDC,
+  DSA,
   GENEVE,
   GRE,
   GRE6,
   GTP,
+  HSR,
   IPOIB,
   IP_TUNNEL,
   IP_VLAN,
@@ -19,8 +31,13 @@ use Rattle.linkinfo_names.specs.declared.entries.TheConstants.{
   MAC_SEC,
   MAC_VLAN,
   NETKIT,
+  OVPN,
+  PPP,
   RM_NET,
+  TUN,
   VETH,
+  VLAN,
+  VLAN_QOS_MAPPING,
   VRF,
   VTI,
   VXCAN,
@@ -66,6 +83,23 @@ names_of family.Wwan = rows WWAN.now
 names_of family.Xfrm = rows XFRM.now
 names_of family.Vti = rows VTI.now
 names_of family.Vxlan = rows VXLAN.now
+names_of family.Bond = rows BOND.now
+names_of family.BondPort = rows BOND_PORT.now
+names_of family.Bridge = rows BRIDGE.now
+names_of family.BridgePort = rows BRIDGE_PORT.now
+names_of family.Vlan = rows VLAN.now
+names_of family.Can = rows CAN.now
+names_of family.Dsa = rows DSA.now
+names_of family.Hsr = rows HSR.now
+names_of family.Tun = rows TUN.now
+names_of family.VlanQosMapping = rows VLAN_QOS_MAPPING.now
+names_of family.BondAdInfo = rows BOND_AD_INFO.now
+names_of family.BridgeQuerierState = rows BRIDGE_QUERIER_STATE.now
+names_of family.CanTdc = rows CAN_TDC.now
+names_of family.CanCtrlModeExt = rows CAN_CTRL_MODE_EXT.now
+names_of family.CanPwm = rows CAN_PWM.now
+names_of family.Ovpn = rows OVPN.now
+names_of family.Ppp = rows PPP.now
 -- End: written by tables/generate.
 names_of _ = []
 

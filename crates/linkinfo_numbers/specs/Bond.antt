@@ -1,6 +1,6 @@
 -- Written by tables/generate from tables/numbers/bond.
 -- Bonds and their ports: the values of each type.
-use Rattle.std.specs.Prelude.{◌≡◌, ℕ, List, [], ◌∷◌, codes, Result, refl}
+use Rattle.std.specs.Prelude.{◌≡◌, ℕ, Bool, true, false, List, [], ◌∷◌, codes, Result, refl}
 use Rattle.std.specs.Fmt.{decimal}
 use Rattle.std.proofs.Common.{inl, inr}
 use Rattle.std.proofs.lemmas.Bool.Decides.{Decides-eqb}
@@ -35,6 +35,7 @@ use Rattle.linkinfo_numbers.specs.declared.bond.LacpState.{LacpState}
 use Rattle.linkinfo_numbers.specs.declared.bond.LacpState16.{LacpState16}
 use Rattle.linkinfo_numbers.specs.declared.bond.OnOff.{OnOff}
 use Rattle.linkinfo_numbers.specs.declared.bond.OnOff.TheVariants as switch
+use Rattle.linkinfo_numbers.specs.FlagWords.{FlagWord, set_if, set_text, text_bits}
 use Rattle.linkinfo_numbers.specs.Table.{Table, IsTable, by_number, value_of}
 use Rattle.linkinfo_numbers.specs.Word.{value_of_word, ReadsWords, reads_words}
 
@@ -543,6 +544,27 @@ lacp_state_known = refl
 abbrev pub lacp_state : ℕ → LacpState
 lacp_state bits = record { 0 = bits }
 
+-- the flags with their words
+abbrev pub lacp_state_words : List FlagWord
+lacp_state_words =
+    (0x01, codes "active") ∷
+    (0x02, codes "short_timeout") ∷
+    (0x04, codes "aggregating") ∷
+    (0x08, codes "in_sync") ∷
+    (0x10, codes "collecting") ∷
+    (0x20, codes "distributing") ∷
+    (0x40, codes "defaulted") ∷
+    (0x80, codes "expired") ∷
+    []
+
+-- the text of the set with these bits
+abbrev pub lacp_state_text : ℕ → List ℕ
+lacp_state_text bits = set_text lacp_state_words 0xff bits
+
+-- the set of a text, or the error
+abbrev pub lacp_state_of_text : List ℕ → Result LacpState DecodeError
+lacp_state_of_text text = set_if family.BondPort 8 lacp_state (text_bits lacp_state_words text)
+
 -- the flags by name, and a last entry without a name that has every bit
 abbrev pub lacp_state16_table : List (List ℕ × ℕ)
 lacp_state16_table =
@@ -564,6 +586,28 @@ lacp_state16_known = refl
 abbrev pub lacp_state16 : ℕ → LacpState16
 lacp_state16 bits = record { 0 = bits }
 
+-- the flags with their words
+abbrev pub lacp_state16_words : List FlagWord
+lacp_state16_words =
+    (0x01, codes "active") ∷
+    (0x02, codes "short_timeout") ∷
+    (0x04, codes "aggregating") ∷
+    (0x08, codes "in_sync") ∷
+    (0x10, codes "collecting") ∷
+    (0x20, codes "distributing") ∷
+    (0x40, codes "defaulted") ∷
+    (0x80, codes "expired") ∷
+    []
+
+-- the text of the set with these bits
+abbrev pub lacp_state16_text : ℕ → List ℕ
+lacp_state16_text bits = set_text lacp_state16_words 0xff bits
+
+-- the set of a text, or the error
+abbrev pub lacp_state16_of_text : List ℕ → Result LacpState16 DecodeError
+lacp_state16_of_text text =
+    set_if family.BondPort 16 lacp_state16 (text_bits lacp_state16_words text)
+
 -- the number of each value
 abbrev pub on_off_number : OnOff → ℕ
 on_off_number switch.Off = 0
@@ -584,6 +628,11 @@ on_off_table_holds = record {
   found = elim [ switch.Other n ↦ inl refl | _ ↦ inr refl ];
   apart = (λ p. cc, (λ p. cc, tt));
 }
+
+-- the value of each truth
+abbrev pub on_off_of_bool : Bool → OnOff
+on_off_of_bool true = switch.On
+on_off_of_bool false = switch.Off
 
 -- the text of each value
 abbrev pub on_off_text : OnOff → List ℕ

@@ -20,6 +20,7 @@ use Rattle.linkinfo_numbers.specs.declared.bridge.BridgePortState.TheVariants as
 use Rattle.linkinfo_numbers.specs.declared.bridge.BridgeBooleanOptionFlags.{
   BridgeBooleanOptionFlags,
 }
+use Rattle.linkinfo_numbers.specs.FlagWords.{FlagWord, set_if, set_text, text_bits}
 use Rattle.linkinfo_numbers.specs.Table.{Table, IsTable, by_number, value_of}
 use Rattle.linkinfo_numbers.specs.Word.{value_of_word, ReadsWords, reads_words}
 
@@ -173,3 +174,24 @@ bridge_boolean_option_flags_known = refl
 -- the set with these bits
 abbrev pub bridge_boolean_option_flags : ℕ → BridgeBooleanOptionFlags
 bridge_boolean_option_flags bits = record { 0 = bits }
+
+-- the flags with their words
+abbrev pub bridge_boolean_option_flags_words : List FlagWord
+bridge_boolean_option_flags_words =
+    (0x1, codes "no_linklocal_learn") ∷
+    (0x2, codes "mcast_vlan_snooping") ∷
+    (0x4, codes "mst_enabled") ∷
+    (0x8, codes "mdb_offload_fail_notification") ∷
+    (0x10, codes "fdb_local_vlan_0") ∷
+    []
+
+-- the text of the set with these bits
+abbrev pub bridge_boolean_option_flags_text : ℕ → List ℕ
+bridge_boolean_option_flags_text bits = set_text bridge_boolean_option_flags_words 0x1f bits
+
+-- the set of a text, or the error
+abbrev pub bridge_boolean_option_flags_of_text : List ℕ → Result BridgeBooleanOptionFlags
+    DecodeError
+bridge_boolean_option_flags_of_text text =
+    set_if family.Bridge 32 bridge_boolean_option_flags (text_bits bridge_boolean_option_flags_words
+    text)

@@ -10,6 +10,8 @@ use Rattle.nla_frame.specs.declared.error.DecodeError.{DecodeError}
 use Rattle.linkinfo_numbers.specs.declared.can.CanState.{CanState}
 use Rattle.linkinfo_numbers.specs.declared.can.CanState.TheVariants as state
 use Rattle.linkinfo_numbers.specs.declared.can.CanCtrlModeFlags.{CanCtrlModeFlags}
+use Rattle.linkinfo_numbers.specs.declared.can.CanClock.{CanClock}
+use Rattle.linkinfo_numbers.specs.FlagWords.{FlagWord, set_if, set_text, text_bits}
 use Rattle.linkinfo_numbers.specs.Table.{Table, IsTable, by_number, value_of}
 use Rattle.linkinfo_numbers.specs.Word.{value_of_word, ReadsWords, reads_words}
 
@@ -86,3 +88,37 @@ can_ctrl_mode_flags_known = refl
 -- the set with these bits
 abbrev pub can_ctrl_mode_flags : ℕ → CanCtrlModeFlags
 can_ctrl_mode_flags bits = record { 0 = bits }
+
+-- the flags with their words
+abbrev pub can_ctrl_mode_flags_words : List FlagWord
+can_ctrl_mode_flags_words =
+    (0x1, codes "LOOPBACK") ∷
+    (0x2, codes "LISTEN-ONLY") ∷
+    (0x4, codes "TRIPLE-SAMPLING") ∷
+    (0x8, codes "ONE-SHOT") ∷
+    (0x10, codes "BERR-REPORTING") ∷
+    (0x20, codes "FD") ∷
+    (0x40, codes "PRESUME-ACK") ∷
+    (0x80, codes "FD-NON-ISO") ∷
+    (0x100, codes "CC-LEN8-DLC") ∷
+    (0x200, codes "TDC-AUTO") ∷
+    (0x400, codes "TDC-MANUAL") ∷
+    (0x800, codes "RESTRICTED") ∷
+    (0x1000, codes "XL") ∷
+    (0x2000, codes "XL-TDC-AUTO") ∷
+    (0x4000, codes "XL-TDC-MANUAL") ∷
+    (0x8000, codes "TMS") ∷
+    []
+
+-- the text of the set with these bits
+abbrev pub can_ctrl_mode_flags_text : ℕ → List ℕ
+can_ctrl_mode_flags_text bits = set_text can_ctrl_mode_flags_words 0xffff bits
+
+-- the set of a text, or the error
+abbrev pub can_ctrl_mode_flags_of_text : List ℕ → Result CanCtrlModeFlags DecodeError
+can_ctrl_mode_flags_of_text text =
+    set_if family.Can 32 can_ctrl_mode_flags (text_bits can_ctrl_mode_flags_words text)
+
+-- the record of a number
+abbrev pub can_clock : ℕ → CanClock
+can_clock n = record { freq = n }

@@ -14,12 +14,14 @@ pub mod Ipvlan
 pub mod Macsec
 pub mod Macvlan
 pub mod Netkit
+pub mod Ovpn
 pub mod Rmnet
 pub mod Tun
 pub mod Tunnel
 pub mod Vlan
 pub mod Vxlan
 -- End: written by tables/generate.
+pub mod FlagWords
 pub mod Flags
 pub mod Kind
 pub mod Name

@@ -10,6 +10,7 @@ use Rattle.nla_frame.specs.declared.error.DecodeError.{DecodeError}
 use Rattle.linkinfo_numbers.specs.declared.vlan.VlanProtocol.{VlanProtocol}
 use Rattle.linkinfo_numbers.specs.declared.vlan.VlanProtocol.TheVariants as protocol
 use Rattle.linkinfo_numbers.specs.declared.vlan.VlanFlags.{VlanFlags}
+use Rattle.linkinfo_numbers.specs.FlagWords.{FlagWord, set_if, set_text, text_bits}
 use Rattle.linkinfo_numbers.specs.Table.{Table, IsTable, by_number, value_of}
 use Rattle.linkinfo_numbers.specs.Word.{value_of_word, ReadsWords, reads_words}
 
@@ -67,3 +68,21 @@ vlan_flags_known = refl
 -- the set with these bits
 abbrev pub vlan_flags : ℕ → VlanFlags
 vlan_flags bits = record { 0 = bits }
+
+-- the flags with their words
+abbrev pub vlan_flags_words : List FlagWord
+vlan_flags_words =
+    (0x1, codes "REORDER_HDR") ∷
+    (0x2, codes "GVRP") ∷
+    (0x4, codes "LOOSE_BINDING") ∷
+    (0x8, codes "MVRP") ∷
+    (0x10, codes "BRIDGE_BINDING") ∷
+    []
+
+-- the text of the set with these bits
+abbrev pub vlan_flags_text : ℕ → List ℕ
+vlan_flags_text bits = set_text vlan_flags_words 0x1f bits
+
+-- the set of a text, or the error
+abbrev pub vlan_flags_of_text : List ℕ → Result VlanFlags DecodeError
+vlan_flags_of_text text = set_if family.Vlan 32 vlan_flags (text_bits vlan_flags_words text)

@@ -4,7 +4,9 @@
 ghost use Rattle.std.specs.Prelude.{◌≡◌};
 
 use crate::by_values::{number_of_value, value_of_number, value_of_word, write_word};
+use crate::flag_words::{FlagWords, bits_of_text};
 use crate::flags::KeepsEveryBit;
+use crate::word::word_error;
 use bitflags::{Flag, Flags};
 use nla_frame::{DecodeError, ExactEq, Family};
 use std::fmt;
@@ -1048,6 +1050,17 @@ impl LacpState {
             value: LacpState(u8::MAX),
         },
     ];
+
+    const WORDS: &'static [(u32, &'static str)] = &[
+        (0x01, "active"),
+        (0x02, "short_timeout"),
+        (0x04, "aggregating"),
+        (0x08, "in_sync"),
+        (0x10, "collecting"),
+        (0x20, "distributing"),
+        (0x40, "defaulted"),
+        (0x80, "expired"),
+    ];
 }
 
 impl Flags for LacpState {
@@ -1082,6 +1095,45 @@ impl KeepsEveryBit for LacpState {
     ghost has_contracts = { tt };
 
     ghost every_bit = { every_bit_8 lacp_state_table lacp_state_known };
+}
+
+/// Writes the words of the flags, and other bits in hex, with commas between them; of the empty set
+/// nothing.
+impl fmt::Display for LacpState {
+    ghost use Rattle.std.specs.Prelude.{Some};
+    ghost use Rattle.linkinfo_numbers.specs.Bond.{lacp_state_text};
+
+    ghost output = { λ set. Some (lacp_state_text set.0) };
+
+    fn fmt<W: fmt::Write>(&self, f: &mut fmt::Formatter<W>) -> fmt::Result {
+        let set = FlagWords {
+            bits: u32::from(self.0),
+            known: 0xff,
+            words: LacpState::WORDS,
+        };
+        fmt::Display::fmt(&set, f)
+    }
+}
+
+/// Reads words, and numbers in hex as `0x20`, with commas between them; the empty text is the empty
+/// set. Any other text, and a number of more than 8 bits, is rejected as
+/// `(BondPort, 0, Word)`.
+impl FromStr for LacpState {
+    type Err = DecodeError;
+
+    ghost use Rattle.linkinfo_numbers.specs.Bond.{lacp_state_of_text};
+
+    ghost from_str_gives = { λ text result. result ≡ lacp_state_of_text text };
+
+    fn from_str(text: &str) -> Result<LacpState, DecodeError> {
+        let Some(bits) = bits_of_text(text, LacpState::WORDS) else {
+            return Err(word_error(Family::BondPort));
+        };
+        match u8::try_from(bits) {
+            Ok(bits) => Ok(LacpState(bits)),
+            Err(_) => Err(word_error(Family::BondPort)),
+        }
+    }
 }
 
 /// The default is the empty set.
@@ -1168,6 +1220,17 @@ impl LacpState16 {
             value: LacpState16(u16::MAX),
         },
     ];
+
+    const WORDS: &'static [(u32, &'static str)] = &[
+        (0x01, "active"),
+        (0x02, "short_timeout"),
+        (0x04, "aggregating"),
+        (0x08, "in_sync"),
+        (0x10, "collecting"),
+        (0x20, "distributing"),
+        (0x40, "defaulted"),
+        (0x80, "expired"),
+    ];
 }
 
 impl Flags for LacpState16 {
@@ -1202,6 +1265,45 @@ impl KeepsEveryBit for LacpState16 {
     ghost has_contracts = { tt };
 
     ghost every_bit = { every_bit_16 lacp_state16_table lacp_state16_known };
+}
+
+/// Writes the words of the flags, and other bits in hex, with commas between them; of the empty set
+/// nothing.
+impl fmt::Display for LacpState16 {
+    ghost use Rattle.std.specs.Prelude.{Some};
+    ghost use Rattle.linkinfo_numbers.specs.Bond.{lacp_state16_text};
+
+    ghost output = { λ set. Some (lacp_state16_text set.0) };
+
+    fn fmt<W: fmt::Write>(&self, f: &mut fmt::Formatter<W>) -> fmt::Result {
+        let set = FlagWords {
+            bits: u32::from(self.0),
+            known: 0xff,
+            words: LacpState16::WORDS,
+        };
+        fmt::Display::fmt(&set, f)
+    }
+}
+
+/// Reads words, and numbers in hex as `0x20`, with commas between them; the empty text is the empty
+/// set. Any other text, and a number of more than 16 bits, is rejected as
+/// `(BondPort, 0, Word)`.
+impl FromStr for LacpState16 {
+    type Err = DecodeError;
+
+    ghost use Rattle.linkinfo_numbers.specs.Bond.{lacp_state16_of_text};
+
+    ghost from_str_gives = { λ text result. result ≡ lacp_state16_of_text text };
+
+    fn from_str(text: &str) -> Result<LacpState16, DecodeError> {
+        let Some(bits) = bits_of_text(text, LacpState16::WORDS) else {
+            return Err(word_error(Family::BondPort));
+        };
+        match u16::try_from(bits) {
+            Ok(bits) => Ok(LacpState16(bits)),
+            Err(_) => Err(word_error(Family::BondPort)),
+        }
+    }
 }
 
 /// The default is the empty set.
@@ -1257,6 +1359,17 @@ impl From<OnOff> for u8 {
 
     fn from(switch: OnOff) -> u8 {
         switches!(number_of_value switch)
+    }
+}
+
+/// True is `On`, false is `Off`.
+impl From<bool> for OnOff {
+    ghost use Rattle.linkinfo_numbers.specs.Bond.{on_off_of_bool};
+
+    ghost from_gives = { λ truth switch. switch ≡ on_off_of_bool truth };
+
+    fn from(truth: bool) -> OnOff {
+        if truth { OnOff::On } else { OnOff::Off }
     }
 }
 

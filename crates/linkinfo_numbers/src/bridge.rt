@@ -4,7 +4,9 @@
 ghost use Rattle.std.specs.Prelude.{◌≡◌};
 
 use crate::by_values::{number_of_value, value_of_number, value_of_word, write_word};
+use crate::flag_words::{FlagWords, bits_of_text};
 use crate::flags::KeepsEveryBit;
+use crate::word::word_error;
 use bitflags::{Flag, Flags};
 use nla_frame::{DecodeError, ExactEq, Family};
 use std::fmt;
@@ -191,6 +193,11 @@ impl From<BridgeMulticastRouterType> for u8 {
     }
 }
 
+impl BridgeMulticastRouterType {
+    /// Another name of `TempQuery`.
+    pub const Auto: BridgeMulticastRouterType = BridgeMulticastRouterType::TempQuery;
+}
+
 impl ExactEq for BridgeMulticastRouterType {
     ghost use Rattle.std.proofs.Common.{rules};
 
@@ -324,6 +331,14 @@ impl BridgeBooleanOptionFlags {
             value: BridgeBooleanOptionFlags(u32::MAX),
         },
     ];
+
+    const WORDS: &'static [(u32, &'static str)] = &[
+        (0x1, "no_linklocal_learn"),
+        (0x2, "mcast_vlan_snooping"),
+        (0x4, "mst_enabled"),
+        (0x8, "mdb_offload_fail_notification"),
+        (0x10, "fdb_local_vlan_0"),
+    ];
 }
 
 impl Flags for BridgeBooleanOptionFlags {
@@ -364,6 +379,42 @@ impl KeepsEveryBit for BridgeBooleanOptionFlags {
         bridge_boolean_option_flags_known };
 }
 
+/// Writes the words of the flags, and other bits in hex, with commas between them; of the empty set
+/// nothing.
+impl fmt::Display for BridgeBooleanOptionFlags {
+    ghost use Rattle.std.specs.Prelude.{Some};
+    ghost use Rattle.linkinfo_numbers.specs.Bridge.{bridge_boolean_option_flags_text};
+
+    ghost output = { λ set. Some (bridge_boolean_option_flags_text set.0) };
+
+    fn fmt<W: fmt::Write>(&self, f: &mut fmt::Formatter<W>) -> fmt::Result {
+        let set = FlagWords {
+            bits: self.0,
+            known: 0x1f,
+            words: BridgeBooleanOptionFlags::WORDS,
+        };
+        fmt::Display::fmt(&set, f)
+    }
+}
+
+/// Reads words, and numbers in hex as `0x20`, with commas between them; the empty text is the empty
+/// set. Any other text, and a number of more than 32 bits, is rejected as
+/// `(Bridge, 0, Word)`.
+impl FromStr for BridgeBooleanOptionFlags {
+    type Err = DecodeError;
+
+    ghost use Rattle.linkinfo_numbers.specs.Bridge.{bridge_boolean_option_flags_of_text};
+
+    ghost from_str_gives = { λ text result. result ≡ bridge_boolean_option_flags_of_text text };
+
+    fn from_str(text: &str) -> Result<BridgeBooleanOptionFlags, DecodeError> {
+        match bits_of_text(text, BridgeBooleanOptionFlags::WORDS) {
+            Some(bits) => Ok(BridgeBooleanOptionFlags(bits)),
+            None => Err(word_error(Family::Bridge)),
+        }
+    }
+}
+
 /// The default is the empty set.
 impl Default for BridgeBooleanOptionFlags {
     ghost is_default = { λ set. set.0 ≡ 0 };
@@ -374,6 +425,22 @@ impl Default for BridgeBooleanOptionFlags {
 }
 
 impl ExactEq for BridgeBooleanOptionFlags {
+    ghost use Rattle.std.proofs.Common.{rules};
+
+    ghost exact = { Prim.search rules };
+}
+
+/// The options of a bridge, and those to change: `struct br_boolopt_multi`, two little-endian
+/// 32-bit numbers (include/uapi/linux/if_bridge.h).
+#[derive(Clone, Copy, Debug, PartialEq, Eq)]
+pub struct BridgeBooleanOptions {
+    /// The options that are on (`optval`).
+    pub value: BridgeBooleanOptionFlags,
+    /// The options to change, in a reply those that the kernel has (`optmask`).
+    pub mask: BridgeBooleanOptionFlags,
+}
+
+impl ExactEq for BridgeBooleanOptions {
     ghost use Rattle.std.proofs.Common.{rules};
 
     ghost exact = { Prim.search rules };

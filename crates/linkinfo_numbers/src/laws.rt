@@ -64,7 +64,9 @@ ghost use Rattle.linkinfo_numbers.specs.Bond.{
   churn_state_table,
   churn_state_text,
   lacp_state,
+  lacp_state_words,
   lacp_state16,
+  lacp_state16_words,
   on_off,
   on_off_number,
   on_off_table,
@@ -86,6 +88,7 @@ ghost use Rattle.linkinfo_numbers.specs.Bridge.{
   bridge_port_state_table,
   bridge_port_state_text,
   bridge_boolean_option_flags,
+  bridge_boolean_option_flags_words,
 };
 ghost use Rattle.linkinfo_numbers.specs.Can.{
   can_state,
@@ -93,6 +96,7 @@ ghost use Rattle.linkinfo_numbers.specs.Can.{
   can_state_table,
   can_state_text,
   can_ctrl_mode_flags,
+  can_ctrl_mode_flags_words,
 };
 ghost use Rattle.linkinfo_numbers.specs.Ethernet.{
   ethernet_protocol,
@@ -162,6 +166,12 @@ ghost use Rattle.linkinfo_numbers.specs.Netkit.{
   netkit_policy_table,
   netkit_policy_text,
 };
+ghost use Rattle.linkinfo_numbers.specs.Ovpn.{
+  ovpn_mode,
+  ovpn_mode_number,
+  ovpn_mode_table,
+  ovpn_mode_text,
+};
 ghost use Rattle.linkinfo_numbers.specs.Rmnet.{rm_net_flags};
 ghost use Rattle.linkinfo_numbers.specs.Tun.{
   tun_type,
@@ -182,10 +192,12 @@ ghost use Rattle.linkinfo_numbers.specs.Vlan.{
   vlan_protocol_table,
   vlan_protocol_text,
   vlan_flags,
+  vlan_flags_words,
 };
 ghost use Rattle.linkinfo_numbers.specs.Vxlan.{vxlan_df, vxlan_df_number, vxlan_df_table};
 // End: written by tables/generate.
 ghost use Rattle.std.specs.Str.{is_utf8};
+ghost use Rattle.linkinfo_numbers.specs.FlagWords.{ReadsFlags};
 ghost use Rattle.linkinfo_numbers.specs.Kind.{
   kind_attribute,
   kind_meaning,
@@ -232,6 +244,7 @@ use crate::ipvlan::{IpVlanFlags, IpVlanMode};
 use crate::macsec::{MacSecCipherId, MacSecOffload, MacSecValidate};
 use crate::macvlan::{MacVlanFlags, MacVlanMacAddressMode, MacVlanMode};
 use crate::netkit::{NetkitMode, NetkitPolicy};
+use crate::ovpn::OvpnMode;
 use crate::rmnet::RmNetFlags;
 use crate::tun::TunType;
 use crate::tunnel::{Ip6TunnelFlags, TunnelEncapFlags, TunnelEncapType};
@@ -289,6 +302,7 @@ pub fn number_round_trip(number: u64)
         (mac_vlan_mac_address_mode number) ≡ number }
     ensures netkit_mode { netkit_mode_number (netkit_mode number) ≡ number }
     ensures netkit_policy { netkit_policy_number (netkit_policy number) ≡ number }
+    ensures ovpn_mode { ovpn_mode_number (ovpn_mode number) ≡ number }
     ensures tun_type { tun_type_number (tun_type number) ≡ number }
     ensures tunnel_encap_type { tunnel_encap_type_number (tunnel_encap_type number) ≡ number }
     ensures vlan_protocol { vlan_protocol_number (vlan_protocol number) ≡ number }
@@ -337,6 +351,7 @@ pub fn value_round_trip()
     ensures mac_vlan_mac_address_mode { ReadsBackWhereProper mac_vlan_mac_address_mode_table }
     ensures netkit_mode { ReadsBackWhereProper netkit_mode_table }
     ensures netkit_policy { ReadsBackWhereProper netkit_policy_table }
+    ensures ovpn_mode { ReadsBackWhereProper ovpn_mode_table }
     ensures tun_type { ReadsBackWhereProper tun_type_table }
     ensures tunnel_encap_type { ReadsBackWhereProper tunnel_encap_type_table }
     ensures vlan_protocol { ReadsBackWhereProper vlan_protocol_table }
@@ -345,6 +360,10 @@ pub fn value_round_trip()
     ensures netkit_scrub { (scrub : NetkitScrub) →
         netkit_scrub (netkit_scrub_number scrub) ≡ scrub }
     ensures forward { NetkitPolicy.Forward ≡ NetkitPolicy.Pass }
+    // Begin: written by tables/generate from tables/numbers (of other names).
+    ensures bridge_multicast_router_type_auto { BridgeMulticastRouterType.Auto ≡
+        BridgeMulticastRouterType.TempQuery }
+// End: written by tables/generate.
 {}
 
 /// The text that `Display` writes for a named value parses as that value, and every other text is
@@ -381,10 +400,23 @@ pub fn word_round_trip()
     ensures mac_vlan_mode { ReadsWords Family.MacVlan mac_vlan_mode_text mac_vlan_mode_table.named }
     ensures netkit_mode { ReadsWords Family.Netkit netkit_mode_text netkit_mode_table.named }
     ensures netkit_policy { ReadsWords Family.Netkit netkit_policy_text netkit_policy_table.named }
+    ensures ovpn_mode { ReadsWords Family.Ovpn ovpn_mode_text ovpn_mode_table.named }
     ensures tun_type { ReadsWords Family.Tun tun_type_text tun_type_table.named }
     ensures vlan_protocol { ReadsWords Family.Vlan vlan_protocol_text vlan_protocol_table.named }
     // End: written by tables/generate.
     ensures netkit_scrub { ReadsWords Family.Netkit netkit_scrub_text netkit_scrubs }
+{}
+
+/// The word of each flag of a set is read as its bit, and the text that `Display` writes of the set
+/// of all flags is read as that set.
+pub fn flag_words()
+    // Begin: written by tables/generate from tables/numbers (of flag words).
+    ensures lacp_state { ReadsFlags lacp_state_words 0xff }
+    ensures lacp_state16 { ReadsFlags lacp_state16_words 0xff }
+    ensures bridge_boolean_option_flags { ReadsFlags bridge_boolean_option_flags_words 0x1f }
+    ensures can_ctrl_mode_flags { ReadsFlags can_ctrl_mode_flags_words 0xffff }
+    ensures vlan_flags { ReadsFlags vlan_flags_words 0x1f }
+// End: written by tables/generate.
 {}
 
 /// A kind made from a text has that text and its tag. A kind made from a kind's own text is equal

@@ -4,7 +4,9 @@
 ghost use Rattle.std.specs.Prelude.{◌≡◌};
 
 use crate::by_values::{number_of_value, value_of_number, value_of_word, write_word};
+use crate::flag_words::{FlagWords, bits_of_text};
 use crate::flags::KeepsEveryBit;
+use crate::word::word_error;
 use bitflags::{Flag, Flags};
 use nla_frame::{DecodeError, ExactEq, Family};
 use std::fmt;
@@ -140,6 +142,14 @@ impl VlanFlags {
             value: VlanFlags(u32::MAX),
         },
     ];
+
+    const WORDS: &'static [(u32, &'static str)] = &[
+        (0x1, "REORDER_HDR"),
+        (0x2, "GVRP"),
+        (0x4, "LOOSE_BINDING"),
+        (0x8, "MVRP"),
+        (0x10, "BRIDGE_BINDING"),
+    ];
 }
 
 impl Flags for VlanFlags {
@@ -174,6 +184,42 @@ impl KeepsEveryBit for VlanFlags {
     ghost has_contracts = { tt };
 
     ghost every_bit = { every_bit_32 vlan_flags_table vlan_flags_known };
+}
+
+/// Writes the words of the flags, and other bits in hex, with commas between them; of the empty set
+/// nothing.
+impl fmt::Display for VlanFlags {
+    ghost use Rattle.std.specs.Prelude.{Some};
+    ghost use Rattle.linkinfo_numbers.specs.Vlan.{vlan_flags_text};
+
+    ghost output = { λ set. Some (vlan_flags_text set.0) };
+
+    fn fmt<W: fmt::Write>(&self, f: &mut fmt::Formatter<W>) -> fmt::Result {
+        let set = FlagWords {
+            bits: self.0,
+            known: 0x1f,
+            words: VlanFlags::WORDS,
+        };
+        fmt::Display::fmt(&set, f)
+    }
+}
+
+/// Reads words, and numbers in hex as `0x20`, with commas between them; the empty text is the empty
+/// set. Any other text, and a number of more than 32 bits, is rejected as
+/// `(Vlan, 0, Word)`.
+impl FromStr for VlanFlags {
+    type Err = DecodeError;
+
+    ghost use Rattle.linkinfo_numbers.specs.Vlan.{vlan_flags_of_text};
+
+    ghost from_str_gives = { λ text result. result ≡ vlan_flags_of_text text };
+
+    fn from_str(text: &str) -> Result<VlanFlags, DecodeError> {
+        match bits_of_text(text, VlanFlags::WORDS) {
+            Some(bits) => Ok(VlanFlags(bits)),
+            None => Err(word_error(Family::Vlan)),
+        }
+    }
 }
 
 /// The default is the empty set.

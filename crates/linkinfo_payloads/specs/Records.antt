@@ -40,12 +40,12 @@ can_berr_counter_layout = le16 ⨾ le16
 
 abbrev pub can_berr_counter_of : ℕ × ℕ → CanBerrCounter
 can_berr_counter_of fields = record {
-  transmit = fields.0;
-  receive = fields.1;
+  txerr = fields.0;
+  rxerr = fields.1;
 }
 
 abbrev pub can_berr_counter_fields : CanBerrCounter → ℕ × ℕ
-can_berr_counter_fields x = (x.transmit, x.receive)
+can_berr_counter_fields x = (x.txerr, x.rxerr)
 
 abbrev pub can_berr_counter_codec : Codec
 can_berr_counter_codec =
@@ -62,20 +62,20 @@ can_bit_timing_layout = ((le32 ⨾ le32) ⨾ (le32 ⨾ le32)) ⨾ ((le32 ⨾ le3
 
 abbrev pub can_bit_timing_of : ((ℕ × ℕ) × (ℕ × ℕ)) × ((ℕ × ℕ) × (ℕ × ℕ)) → CanBitTiming
 can_bit_timing_of fields = record {
-  bit_rate = fields.0.0.0;
+  bitrate = fields.0.0.0;
   sample_point = fields.0.0.1;
-  time_quantum = fields.0.1.0;
-  propagation_segment = fields.0.1.1;
-  phase_segment_1 = fields.1.0.0;
-  phase_segment_2 = fields.1.0.1;
-  jump_width = fields.1.1.0;
-  prescaler = fields.1.1.1;
+  tq = fields.0.1.0;
+  prop_seg = fields.0.1.1;
+  phase_seg1 = fields.1.0.0;
+  phase_seg2 = fields.1.0.1;
+  sjw = fields.1.1.0;
+  brp = fields.1.1.1;
 }
 
 abbrev pub can_bit_timing_fields : CanBitTiming → ((ℕ × ℕ) × (ℕ × ℕ)) × ((ℕ × ℕ) × (ℕ × ℕ))
 can_bit_timing_fields x = (
-  ((x.bit_rate, x.sample_point), (x.time_quantum, x.propagation_segment)),
-  ((x.phase_segment_1, x.phase_segment_2), (x.jump_width, x.prescaler)),
+  ((x.bitrate, x.sample_point), (x.tq, x.prop_seg)),
+  ((x.phase_seg1, x.phase_seg2), (x.sjw, x.brp)),
 )
 
 abbrev pub can_bit_timing_codec : Codec
@@ -96,14 +96,14 @@ abbrev pub can_bit_timing_const_of : List ℕ × (((ℕ × ℕ) × (ℕ × ℕ))
     CanBitTimingConst
 can_bit_timing_const_of fields = record {
   name = fields.0;
-  segment_1_min = fields.1.0.0.0;
-  segment_1_max = fields.1.0.0.1;
-  segment_2_min = fields.1.0.1.0;
-  segment_2_max = fields.1.0.1.1;
-  jump_width_max = fields.1.1.0.0;
-  prescaler_min = fields.1.1.0.1;
-  prescaler_max = fields.1.1.1.0;
-  prescaler_increment = fields.1.1.1.1;
+  tseg1_min = fields.1.0.0.0;
+  tseg1_max = fields.1.0.0.1;
+  tseg2_min = fields.1.0.1.0;
+  tseg2_max = fields.1.0.1.1;
+  sjw_max = fields.1.1.0.0;
+  brp_min = fields.1.1.0.1;
+  brp_max = fields.1.1.1.0;
+  brp_inc = fields.1.1.1.1;
 }
 
 abbrev pub can_bit_timing_const_fields : CanBitTimingConst →
@@ -111,8 +111,8 @@ abbrev pub can_bit_timing_const_fields : CanBitTimingConst →
 can_bit_timing_const_fields x = (
   x.name,
   (
-    ((x.segment_1_min, x.segment_1_max), (x.segment_2_min, x.segment_2_max)),
-    ((x.jump_width_max, x.prescaler_min), (x.prescaler_max, x.prescaler_increment)),
+    ((x.tseg1_min, x.tseg1_max), (x.tseg2_min, x.tseg2_max)),
+    ((x.sjw_max, x.brp_min), (x.brp_max, x.brp_inc)),
   ),
 )
 

@@ -70,11 +70,13 @@ use Rattle.linkinfo_print.specs.ListData.{
   list_data,
   member_name,
   members_on,
+  named_after,
   other_data,
   others_in,
   port_table_of,
   put_if,
   role_data,
+  rows_or,
   rows_data,
   shown_as,
   table_of,
@@ -154,14 +156,15 @@ rows_flat : (t : Option Table) (payload : List ℕ) → IsFlat 4 (rows_data t pa
 rows_flat (Some t) payload = attributes_flat t payload
 rows_flat None payload = string_flat 4 _
 
-pub role_flat : (r : Role) (payload : List ℕ) → IsFlat 4 (role_data r payload)
-role_flat role.Kind payload = string_flat 4 _
-role_flat (role.Data tag) payload = rows_flat (table_of tag) payload
-role_flat role.Xstats payload = string_flat 4 _
-role_flat role.PortKind payload = string_flat 4 _
-role_flat (role.PortData tag) payload = rows_flat (port_table_of tag) payload
-role_flat role.Misplaced payload = string_flat 4 _
-role_flat role.Unknown payload = string_flat 4 _
+pub role_flat : (r : Role) (named : Option Table) (payload : List ℕ) →
+    IsFlat 4 (role_data r named payload)
+role_flat role.Kind named payload = string_flat 4 _
+role_flat (role.Data tag) named payload = rows_flat (rows_or (table_of tag) named) payload
+role_flat role.Xstats named payload = string_flat 4 _
+role_flat role.PortKind named payload = string_flat 4 _
+role_flat (role.PortData tag) named payload = rows_flat (port_table_of tag) payload
+role_flat role.Misplaced named payload = string_flat 4 _
+role_flat role.Unknown named payload = string_flat 4 _
 
 maybe_string : (n : ℕ) (name : Option (List ℕ)) →
     MaybeFlat n (option_map string name)
@@ -187,15 +190,16 @@ put_if_flat : (n : ℕ) (name : Option (List ℕ)) (d : Data) (ms : Members) →
 put_if_flat n (Some name) d ms h g = put_flat n name d ms h g
 put_if_flat n None d ms h g = g
 
-members_flat : (items : List (Result Attribute DecodeError)) (ms : Members) (t : CurrentKinds) →
-    AreFlat 4 ms → AreFlat 4 (members_on ms t items)
-members_flat [] ms t h = h
-members_flat ((Ok a) ∷ more) ms t h =
+members_flat : (items : List (Result Attribute DecodeError)) (ms : Members) (t : CurrentKinds)
+    (named : Option Table) → AreFlat 4 ms → AreFlat 4 (members_on ms t named items)
+members_flat [] ms t named h = h
+members_flat ((Ok a) ∷ more) ms t named h =
     members_flat more
-    (put_if (shown_as a more) (role_data (role_at t a) a.value) ms) (next_kinds t a)
-    (put_if_flat 4 (shown_as a more) (role_data (role_at t a) a.value) ms
-    (role_flat (role_at t a) a.value) h)
-members_flat ((Err e) ∷ more) ms t h = h
+    (put_if (shown_as a more) (role_data (role_at t a) named a.value) ms) (next_kinds t a)
+    (named_after named a)
+    (put_if_flat 4 (shown_as a more) (role_data (role_at t a) named a.value) ms
+    (role_flat (role_at t a) named a.value) h)
+members_flat ((Err e) ∷ more) ms t named h = h
 
 if_other_flat : (name : Option (List ℕ)) (a : Attribute) (ds : List Data) →
     AllByRecursion (IsFlat 1) ds → AllByRecursion (IsFlat 1) (if_other name (other_data a) ds)
@@ -217,9 +221,9 @@ with_others_flat (d ∷ ds) ms h g =
 
 items_flat : (items : List (Result Attribute DecodeError)) → IsFlat 5 (items_data items)
 items_flat items =
-    object_flat 4 (with_others (others_in items) (members_on no_members no_kinds items))
-    (with_others_flat (others_in items) (members_on no_members no_kinds items) (others_flat items)
-    (members_flat items no_members no_kinds (none_flat 4)))
+    object_flat 4 (with_others (others_in items) (members_on no_members no_kinds None items))
+    (with_others_flat (others_in items) (members_on no_members no_kinds None items)
+    (others_flat items) (members_flat items no_members no_kinds None (none_flat 4)))
 
 pub list_flat : (s : List ℕ) → IsFlat 5 (list_data s)
 unfolding list_data
@@ -229,9 +233,9 @@ list_flat s = items_flat (walk_items no_kinds (nla_items s))
 
 whole_flat : (name : Option (List ℕ)) (a : Attribute) → IsFlat 5 (member_or_other name a)
 whole_flat (Some name) a =
-    object_flat 4 (put name (role_data (role_at no_kinds a) a.value) no_members)
-    (put_flat 4 name (role_data (role_at no_kinds a) a.value) no_members
-    (role_flat (role_at no_kinds a) a.value) (none_flat 4))
+    object_flat 4 (put name (role_data (role_at no_kinds a) None a.value) no_members)
+    (put_flat 4 name (role_data (role_at no_kinds a) None a.value) no_members
+    (role_flat (role_at no_kinds a) None a.value) (none_flat 4))
 whole_flat None a = deeper 1 5 (other_data a) (lit≤ tt) (other_flat a)
 
 front_flat : (f : Family) (t : Table) (rest : List ℕ) (a : Attribute) →

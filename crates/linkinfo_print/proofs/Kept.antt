@@ -40,6 +40,7 @@ use Rattle.linkinfo.specs.declared.role.CurrentKinds.{CurrentKinds}
 use Rattle.linkinfo.proofs.Pairs.{front}
 use Rattle.linkinfo.proofs.Steps.{after_is, meaning_is, own_error_is}
 use Rattle.linkinfo_view.specs.Attributes.{whole}
+use Rattle.linkinfo_view.specs.declared.format.Table.{Table}
 use Rattle.linkinfo_print.specs.Laws.{HasEach, KeepsOthers, KeepsShown, accepted, items_in}
 use Rattle.linkinfo_print.specs.ListData.{
   comes_again,
@@ -47,6 +48,8 @@ use Rattle.linkinfo_print.specs.ListData.{
   list_data,
   member_name,
   members_on,
+  named_after,
+  named_after_all,
   other_data,
   others_in,
   put_if,
@@ -160,16 +163,16 @@ put_if_other q None d ms h = refl
 put_if_other q (Some k) d ms h = get_member-put_other q k d ms (h k refl)
 
 -- later attributes of other types leave it
-later_leave : (n : ℕ) (name : List ℕ) (items : Items) (ms : Members) (t : CurrentKinds) →
-    member_name n ≡ Some name → comes_again n items ≡ false →
-    get_member name (members_on ms t items) ≡ get_member name ms
-later_leave n name [] ms t named none = refl
-later_leave n name ((Err e) ∷ more) ms t named none = refl
-later_leave n name ((Ok b) ∷ more) ms t named none =
+later_leave : (n : ℕ) (name : List ℕ) (items : Items) (ms : Members) (t : CurrentKinds)
+    (rows : Option Table) → member_name n ≡ Some name → comes_again n items ≡ false →
+    get_member name (members_on ms t rows items) ≡ get_member name ms
+later_leave n name [] ms t rows named none = refl
+later_leave n name ((Err e) ∷ more) ms t rows named none = refl
+later_leave n name ((Ok b) ∷ more) ms t rows named none =
     let kind = masked b.kind in
     let parts = or_parts (eqb kind n) (comes_again n more) none in
-    later_leave n name more (put_if (shown_as b more) (role_data (role_at t b) b.value) ms)
-    (next_kinds t b) named parts.1
+    later_leave n name more (put_if (shown_as b more) (role_data (role_at t b) rows b.value) ms)
+    (next_kinds t b) (named_after rows b) named parts.1
     ∙ put_if_other name (shown_as b more) _ ms (λ k shown same.
     eqb-false kind n parts.0
     (sym (type_of_member kind k (unless_some (comes_again kind more) (member_name kind) k shown).1)
@@ -177,21 +180,22 @@ later_leave n name ((Ok b) ∷ more) ms t named none =
     ∙ type_of_member n name named))
 
 member_there : (before : List Attribute) (a : Attribute) (later : Items) (name : List ℕ)
-    (ms : Members) (t : CurrentKinds) → shown_as a later ≡ Some name →
-    get_member name (members_on ms t (accepted before ++ Ok a ∷ later))
-    ≡ Some (role_data (role_at (kinds_after_all t before) a) a.value)
-member_there [] a later name ms t h =
+    (ms : Members) (t : CurrentKinds) (rows : Option Table) → shown_as a later ≡ Some name →
+    get_member name (members_on ms t rows (accepted before ++ Ok a ∷ later))
+    ≡ Some (role_data (role_at (kinds_after_all t before) a) (named_after_all rows before) a.value)
+member_there [] a later name ms t rows h =
     let kind = masked a.kind in
-    let d = role_data (role_at t a) a.value in
+    let d = role_data (role_at t a) rows a.value in
     let parts = unless_some (comes_again kind later) (member_name kind) name h in
     ap (λ (o : Option (List ℕ)). get_member name
-    (members_on (put_if o d ms) (next_kinds t a) later)) h
-    ∙ later_leave kind name later _ (next_kinds t a) parts.1 parts.0
+    (members_on (put_if o d ms) (next_kinds t a) (named_after rows a) later)) h
+    ∙ later_leave kind name later _ (next_kinds t a) (named_after rows a) parts.1 parts.0
     ∙ get_member-put name d ms
-member_there (f ∷ before) a later name ms t h =
+member_there (f ∷ before) a later name ms t rows h =
     member_there before a later name
-    (put_if (shown_as f (accepted before ++ Ok a ∷ later)) (role_data (role_at t f) f.value) ms)
-    (next_kinds t f) h
+    (put_if (shown_as f (accepted before ++ Ok a ∷ later)) (role_data (role_at t f) rows f.value)
+    ms)
+    (next_kinds t f) (named_after rows f) h
 
 with_others_apart : (q : List ℕ) (ds : List Data) (ms : Members) → (q ≡ codes "others" → ⊥) →
     get_member q (with_others ds ms) ≡ get_member q ms
@@ -204,8 +208,8 @@ keeps_shown s = λ before a later name e h.
     let kind = masked a.kind in
     let named = (unless_some (comes_again kind later) (member_name kind) name h).1 in
     with_others_apart name (others_in (items_in s)) _ (others_apart kind name named)
-    ∙ ap (λ (items : Items). get_member name (members_on no_members no_kinds items)) e
-    ∙ member_there before a later name no_members no_kinds h
+    ∙ ap (λ (items : Items). get_member name (members_on no_members no_kinds None items)) e
+    ∙ member_there before a later name no_members no_kinds None h
 
 -- ---- the others
 

@@ -89,11 +89,13 @@ use Rattle.linkinfo_print.specs.ListData.{
   list_data,
   member_name,
   members_on,
+  named_after,
   other_data,
   others_in,
   port_table_of,
   put_if,
   role_data,
+  rows_or,
   rows_data,
   shown_as,
   table_of,
@@ -157,15 +159,16 @@ rows_printable : (t : Option Table) (payload : List ℕ) → IsBytes payload →
 rows_printable (Some t) payload h = attributes_printable t payload h
 rows_printable None payload h = hex_data_printable payload h
 
-role_printable : (r : Role) (payload : List ℕ) → IsBytes payload →
-    IsPrintable (role_data r payload)
-role_printable role.Kind payload h = escaped_printable _
-role_printable (role.Data tag) payload h = rows_printable (table_of tag) payload h
-role_printable role.Xstats payload h = hex_data_printable payload h
-role_printable role.PortKind payload h = escaped_printable _
-role_printable (role.PortData tag) payload h = rows_printable (port_table_of tag) payload h
-role_printable role.Misplaced payload h = hex_data_printable payload h
-role_printable role.Unknown payload h = hex_data_printable payload h
+role_printable : (r : Role) (named : Option Table) (payload : List ℕ) → IsBytes payload →
+    IsPrintable (role_data r named payload)
+role_printable role.Kind named payload h = escaped_printable _
+role_printable (role.Data tag) named payload h =
+    rows_printable (rows_or (table_of tag) named) payload h
+role_printable role.Xstats named payload h = hex_data_printable payload h
+role_printable role.PortKind named payload h = escaped_printable _
+role_printable (role.PortData tag) named payload h = rows_printable (port_table_of tag) payload h
+role_printable role.Misplaced named payload h = hex_data_printable payload h
+role_printable role.Unknown named payload h = hex_data_printable payload h
 
 member_named : (n : ℕ) → IfSome (member_name n) Passes
 member_named n =
@@ -233,15 +236,15 @@ put_if_printable (Some name) d ms p h g = put_printable name d ms p h g
 put_if_printable None d ms p h g = g
 
 members_printable : (items : List (Result Attribute DecodeError)) (ms : Members)
-    (t : CurrentKinds) → HoldBytes items → MembersArePrintable ms →
-    MembersArePrintable (members_on ms t items)
-members_printable [] ms t h g = g
-members_printable ((Ok a) ∷ more) ms t h g =
-    members_printable more (put_if (shown_as a more) (role_data (role_at t a) a.value) ms)
-    (next_kinds t a) h.1
-    (put_if_printable (shown_as a more) (role_data (role_at t a) a.value) ms (shown_named a more)
-    (role_printable (role_at t a) a.value h.0) g)
-members_printable ((Err e) ∷ more) ms t h g = g
+    (t : CurrentKinds) (named : Option Table) → HoldBytes items → MembersArePrintable ms →
+    MembersArePrintable (members_on ms t named items)
+members_printable [] ms t named h g = g
+members_printable ((Ok a) ∷ more) ms t named h g =
+    members_printable more (put_if (shown_as a more) (role_data (role_at t a) named a.value) ms)
+    (next_kinds t a) (named_after named a) h.1
+    (put_if_printable (shown_as a more) (role_data (role_at t a) named a.value) ms
+    (shown_named a more) (role_printable (role_at t a) named a.value h.0) g)
+members_printable ((Err e) ∷ more) ms t named h g = g
 
 if_other_printable : (name : Option (List ℕ)) (d : Data) (ds : List Data) → IsPrintable d →
     AllPrintable ds → AllPrintable (if_other name d ds)
@@ -266,8 +269,8 @@ with_others_printable (d ∷ ds) ms h g =
 items_data_printable : (items : List (Result Attribute DecodeError)) → HoldBytes items →
     IsPrintable (items_data items)
 items_data_printable items h =
-    with_others_printable (others_in items) (members_on no_members no_kinds items)
-    (others_printable items h) (members_printable items no_members no_kinds h tt)
+    with_others_printable (others_in items) (members_on no_members no_kinds None items)
+    (others_printable items h) (members_printable items no_members no_kinds None h tt)
 
 pub list_printable : (s : List ℕ) → IsBytes s → IsPrintable (list_data s)
 unfolding list_data
@@ -277,7 +280,7 @@ list_printable s h = items_data_printable (walk_items no_kinds (nla_items s)) (l
 
 whole_printable : (name : Option (List ℕ)) (a : Attribute) → IfSome name Passes →
     IsBytes a.value → IsPrintable (member_or_other name a)
-whole_printable (Some name) a p h = (p, role_printable (role_at no_kinds a) a.value h, tt)
+whole_printable (Some name) a p h = (p, role_printable (role_at no_kinds a) None a.value h, tt)
 whole_printable None a p h = other_printable a h
 
 front_printable : (f : Family) (t : Table) (rest : List ℕ) (a : Attribute) → IsBytes rest →

@@ -23,7 +23,14 @@ use Rattle.linkinfo.specs.Strings.{kinds_after_all, reading}
 use Rattle.linkinfo.specs.Walks.{walk_items}
 use Rattle.linkinfo_view.specs.Attributes.{attributes}
 use Rattle.linkinfo_print.specs.Answers.{answer_text}
-use Rattle.linkinfo_print.specs.ListData.{list_data, other_data, others_in, role_data, shown_as}
+use Rattle.linkinfo_print.specs.ListData.{
+  list_data,
+  named_after_all,
+  other_data,
+  others_in,
+  role_data,
+  shown_as,
+}
 use Rattle.linkinfo_print.specs.Plain.{plain}
 use Rattle.linkinfo_print.specs.declared.report.Printed.{Printed}
 use Rattle.serde_json.specs.Data.{Data, array}
@@ -44,14 +51,16 @@ abbrev pub HasEach : List ℕ → Type 0
 HasEach s = IsOk (reading bytes_layer s) → items_in s ≡ accepted (attributes s)
 
 -- An attribute of a list is shown if its type has a name and no later attribute has the type. Then
--- the object has a member of that name: its value, by its role under the kinds before it.
+-- the object has a member of that name: its value, by its role under the kinds before it, and by
+-- their names.
 abbrev pub KeepsShown : List ℕ → Type 0
 KeepsShown s =
     (front : List Attribute) (a : Attribute) (later : List (Result Attribute DecodeError))
     (name : List ℕ) →
     items_in s ≡ accepted front ++ Ok a ∷ later → shown_as a later ≡ Some name →
     get name (list_data s)
-    ≡ Some (role_data (role_at (kinds_after_all no_kinds front) a) a.value)
+    ≡ Some (role_data (role_at (kinds_after_all no_kinds front) a) (named_after_all None front)
+    a.value)
 
 -- Every other attribute is in the array `others`, before those that follow it in the list.
 abbrev pub KeepsOthers : List ℕ → Type 0

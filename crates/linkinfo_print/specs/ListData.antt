@@ -36,6 +36,7 @@ use Rattle.linkinfo.specs.Walks.{walk_items}
 use Rattle.linkinfo.specs.declared.role.CurrentKinds.{CurrentKinds}
 use Rattle.linkinfo.specs.declared.role.Role.{Role}
 use Rattle.linkinfo.specs.declared.role.Role.TheVariants as role
+use Rattle.linkinfo_view.specs.Table.{table_of_other}
 use Rattle.linkinfo_view.specs.Text.{escaped_text, hex_data}
 use Rattle.linkinfo_view.specs.View.{attributes_data}
 use Rattle.linkinfo_view.specs.declared.format.Table.{Table}
@@ -75,6 +76,19 @@ table_of tag = table_in (family_in (bytes_layer.data_of (family_of tag)).content
 abbrev pub port_table_of : PortTag → Option Table
 port_table_of tag = table_in (family_in (bytes_layer.port_data_of (port_family_of tag)).contents)
 
+-- The rows of the data that follows an attribute, by the name of its kind: those of the last name,
+-- of a kind that the library keeps as bytes. Where the family of a kind has rows, they are those.
+abbrev pub named_after : Option Table → Attribute → Option Table
+named_after named a = if masked a.kind == 1 then table_of_other (stripped a.value) else named
+
+abbrev pub named_after_all : Option Table → List Attribute → Option Table
+named_after_all named [] = named
+named_after_all named (a ∷ more) = named_after_all (named_after named a) more
+
+abbrev pub rows_or : Option Table → Option Table → Option Table
+rows_or (Some t) named = Some t
+rows_or None named = named
+
 -- ---- the value of an attribute
 
 -- data by its rows; data without rows in hex
@@ -87,12 +101,12 @@ abbrev pub name_data : List ℕ → Data
 name_data payload = string (escaped_text (stripped payload))
 
 -- names are texts, data is shown by its rows, and all else is hex
-abbrev pub role_data : Role → List ℕ → Data
-role_data role.Kind payload = name_data payload
-role_data (role.Data tag) payload = rows_data (table_of tag) payload
-role_data role.PortKind payload = name_data payload
-role_data (role.PortData tag) payload = rows_data (port_table_of tag) payload
-role_data _ payload = hex_data payload
+abbrev pub role_data : Role → Option Table → List ℕ → Data
+role_data role.Kind named payload = name_data payload
+role_data (role.Data tag) named payload = rows_data (rows_or (table_of tag) named) payload
+role_data role.PortKind named payload = name_data payload
+role_data (role.PortData tag) named payload = rows_data (port_table_of tag) payload
+role_data _ named payload = hex_data payload
 
 -- ---- the members
 
@@ -121,12 +135,13 @@ put_if (Some name) d members = put name d members
 put_if None d members = members
 
 -- the members of a list, after these of the attributes before
-abbrev pub members_on : Members → CurrentKinds → List (Result Attribute DecodeError) → Members
-members_on members t [] = members
-members_on members t ((Ok a) ∷ more) =
-    members_on (put_if (shown_as a more) (role_data (role_at t a) a.value) members)
-    (next_kinds t a) more
-members_on members t ((Err e) ∷ more) = members
+abbrev pub members_on : Members → CurrentKinds → Option Table →
+    List (Result Attribute DecodeError) → Members
+members_on members t named [] = members
+members_on members t named ((Ok a) ∷ more) =
+    members_on (put_if (shown_as a more) (role_data (role_at t a) named a.value) members)
+    (next_kinds t a) (named_after named a) more
+members_on members t named ((Err e) ∷ more) = members
 
 -- an attribute that is no member: its whole type, its payload in hex, and the name of its type if
 -- a later attribute is that member
@@ -153,7 +168,8 @@ with_others (d ∷ ds) members = put (codes "others") (array (items_of (d ∷ ds
 -- The object of a list of attributes. The last attribute of each known type is a member; all others
 -- are in `others`, in order.
 abbrev pub items_data : List (Result Attribute DecodeError) → Data
-items_data items = object (with_others (others_in items) (members_on no_members no_kinds items))
+items_data items =
+    object (with_others (others_in items) (members_on no_members no_kinds None items))
 
 -- a byte string as JSON data
 unfoldable pub list_data : List ℕ → Data

@@ -55,7 +55,7 @@ use Rattle.serde_json.specs.Data.{
 
 abbrev pub member_or_other : Option (List ℕ) → Attribute → Data
 member_or_other (Some name) a =
-    object (put name (role_data (role_at no_kinds a) a.value) no_members)
+    object (put name (role_data (role_at no_kinds a) None a.value) no_members)
 member_or_other None a = other_data a
 
 -- an attribute of a list as the object of its member: names are texts, all else is hex

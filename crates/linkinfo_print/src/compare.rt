@@ -138,7 +138,7 @@ fn whole_json(alloc: Global, nla: &NlaBuffer<'_>) -> Result<Value, AllocError>
     match member_name(item.raw_kind & TYPE_MASK) {
         Some(name) => {
             let mut members = Map::new(alloc);
-            put(&mut members, alloc, name, item_json(alloc, &item)?)?;
+            put(&mut members, alloc, name, item_json(alloc, &item, None)?)?;
             Ok(Value::Object(members))
         }
         None => other_json(alloc, &item),

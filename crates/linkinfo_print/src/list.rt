@@ -28,11 +28,13 @@ ghost use Rattle.linkinfo_print.specs.ListData.{
   list_data,
   member_name,
   name_data,
+  named_after,
   other_data,
   port_table_of,
   put_if,
   role_data,
   rows_data,
+  rows_or,
   shown_as,
   table_of,
   with_others,
@@ -109,6 +111,27 @@ pub fn port_table_of(tag: PortTag) -> Option<Table>
     table_in(PayloadFamily::<Bytes>::listing(family))
 }
 
+/// The rows of the data that follows an attribute, by the name of its kind: those of the last name,
+/// of a kind that the library keeps as bytes.
+fn named_after(named: Option<Table>, item: &LinkInfoItem<'_>) -> Option<Table>
+    ensures { result ≡ named_after named (attribute_of_item item.now) }
+{
+    match item.raw_kind & TYPE_MASK {
+        IFLA_INFO_KIND => Table::of_other(without_nul(item.value)),
+        _ => named,
+    }
+}
+
+/// The rows of a kind's family, or if it has none those of the kind's name.
+fn rows_or(rows: Option<Table>, named: Option<Table>) -> Option<Table>
+    ensures { result ≡ rows_or rows named }
+{
+    match rows {
+        Some(table) => Some(table),
+        None => named,
+    }
+}
+
 /// Data by its rows, or in hex.
 fn rows_json(alloc: Global, table: Option<Table>, payload: &[u8]) -> Result<Value, AllocError>
     ensures value { IfOk result (λ v. view v ≡ rows_data table payload.now) }
@@ -127,18 +150,22 @@ fn name_json(alloc: Global, payload: &[u8]) -> Result<Value, AllocError>
 }
 
 /// The value of an attribute of a list, by its role under the current kinds: a name is a text, data
-/// is shown by its rows, and all else is hex.
+/// is shown by its rows, those by the kind's name among them, and all else is hex.
 #[tactic(auto, unfolding(linkinfo::specs::Roles::role_of))]
-pub(crate) fn item_json(alloc: Global, item: &LinkInfoItem<'_>) -> Result<Value, AllocError>
+pub(crate) fn item_json(
+    alloc: Global,
+    item: &LinkInfoItem<'_>,
+    named: Option<Table>,
+) -> Result<Value, AllocError>
     ensures { IfOk result (λ v. view v
         ≡ role_data
         (role_of (record { kind = item.now.kind_tag; port = item.now.port_tag })
-        (masked item.now.raw_kind)) item.now.value.now) }
+        (masked item.now.raw_kind)) named item.now.value.now) }
 {
     match item.raw_kind & TYPE_MASK {
         IFLA_INFO_KIND | IFLA_INFO_SLAVE_KIND => name_json(alloc, item.value),
         IFLA_INFO_DATA => match item.kind_tag {
-            Some(tag) => rows_json(alloc, table_of(tag), item.value),
+            Some(tag) => rows_json(alloc, rows_or(table_of(tag), named), item.value),
             None => hex_json(alloc, item.value),
         },
         IFLA_INFO_SLAVE_DATA => match item.port_tag {
@@ -224,6 +251,8 @@ pub(crate) fn other_json(alloc: Global, item: &LinkInfoItem<'_>) -> Result<Value
 struct Shown {
     members: Map<String, Value>,
     others: Vec<Value>,
+    /// The rows of the data that comes, by the name of its kind.
+    named: Option<Table>,
 }
 
 impl Shown {
@@ -231,10 +260,12 @@ impl Shown {
         ensures members { members_view result.members.entries
             ≡ Rattle.serde_json.specs.Data.no_members }
         ensures others { result.others.items ≡ Rattle.std.specs.Prelude.[] }
+        ensures named { result.named ≡ Rattle.std.specs.Prelude.None }
     {
         Shown {
             members: Map::new(alloc),
             others: Vec::new(alloc),
+            named: None,
         }
     }
 
@@ -249,16 +280,20 @@ impl Shown {
             ≡ put_if (option_map (λ n. n.now) name.entry)
             (role_data
             (role_of (record { kind = item.now.kind_tag; port = item.now.port_tag })
-            (masked item.now.raw_kind)) item.now.value.now)
+            (masked item.now.raw_kind)) self.old.named item.now.value.now)
             (members_view self.old.members.entries)) }
         ensures others { OnOk result (map view self.new.others.items
             ≡ map view self.old.others.items
             ++ if_other (option_map (λ n. n.now) name.entry)
             (other_data (attribute_of_item item.now)) Rattle.std.specs.Prelude.[]) }
+        ensures named { OnOk result
+            (self.new.named ≡ named_after self.old.named (attribute_of_item item.now)) }
     {
+        let named = self.named;
+        self.named = named_after(named, item);
         match name {
             Some(name) => {
-                let value = item_json(alloc, item)?;
+                let value = item_json(alloc, item, named)?;
                 put(&mut self.members, alloc, name, value)
             }
             None => push(&mut self.others, other_json(alloc, item)?),
@@ -274,6 +309,7 @@ impl Shown {
         let Shown {
             mut members,
             others,
+            ..
         } = self;
         if others.is_empty() {
             return Ok(Value::Object(members));

@@ -321,6 +321,18 @@ can_pwm_rows =
     (9, Le32) ∷  -- Pwmo
     []
 
+-- Ovpn
+abbrev pub ovpn_rows : List (ℕ × Shape)
+ovpn_rows =
+    (1, U8) ∷  -- Mode
+    []
+
+-- Ppp
+abbrev pub ppp_rows : List (ℕ × Shape)
+ppp_rows =
+    (1, I32) ∷  -- DevFd
+    []
+
 -- the rows of a family in the typed layer, by type
 abbrev pub typed_rows_of : Family → List (ℕ × Shape)
 typed_rows_of family.Bond = bond_rows
@@ -338,6 +350,8 @@ typed_rows_of family.BridgeQuerierState = bridge_querier_state_rows
 typed_rows_of family.CanTdc = can_tdc_rows
 typed_rows_of family.CanCtrlModeExt = can_ctrl_mode_ext_rows
 typed_rows_of family.CanPwm = can_pwm_rows
+typed_rows_of family.Ovpn = ovpn_rows
+typed_rows_of family.Ppp = ppp_rows
 typed_rows_of f = rows_of f
 
 abbrev pub typed_shape_of : Family → ℕ → Option Shape

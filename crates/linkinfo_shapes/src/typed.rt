@@ -21,6 +21,8 @@ ghost use Rattle.linkinfo_shapes.specs.Typed.{
   can_tdc_rows,
   can_ctrl_mode_ext_rows,
   can_pwm_rows,
+  ovpn_rows,
+  ppp_rows,
 };
 
 use crate::shape::Shape;
@@ -51,6 +53,8 @@ pub fn typed_shape(family: Family, kind: u16) -> Option<Shape>
         Family::CanTdc => can_tdc(kind),
         Family::CanCtrlModeExt => can_ctrl_mode_ext(kind),
         Family::CanPwm => can_pwm(kind),
+        Family::Ovpn => ovpn(kind),
+        Family::Ppp => ppp(kind),
         _ => table_shape(family, kind),
     }
 }
@@ -417,6 +421,28 @@ fn can_pwm(kind: u16) -> Option<Shape>
         7 => Some(Shape::Le32),
         8 => Some(Shape::Le32),
         9 => Some(Shape::Le32),
+        _ => None,
+    }
+}
+
+/// `IFLA_OVPN_*`.
+#[inline(always)]
+fn ovpn(kind: u16) -> Option<Shape>
+    ensures { result ≡ found ovpn_rows kind }
+{
+    match kind {
+        1 => Some(Shape::U8),
+        _ => None,
+    }
+}
+
+/// `IFLA_PPP_*`.
+#[inline(always)]
+fn ppp(kind: u16) -> Option<Shape>
+    ensures { result ≡ found ppp_rows kind }
+{
+    match kind {
+        1 => Some(Shape::I32),
         _ => None,
     }
 }

@@ -28,14 +28,17 @@ use Rattle.std.proofs.Common.{ap, subst, sym, ◌∙◌}
 use Rattle.std.proofs.lemmas.Bool.{eqb-true}
 use Rattle.nla_frame.specs.Attribute.{Attribute, masked}
 use Rattle.nla_frame.specs.NlaItems.{nla_items}
+use Rattle.nla_frame.specs.declared.default_nla.DefaultNla.{DefaultNla}
+use Rattle.nla_frame.specs.declared.error.Cause.{Cause}
 use Rattle.nla_frame.specs.declared.error.DecodeError.{DecodeError}
 use Rattle.nla_frame.specs.declared.error.Family.{Family}
-use Rattle.linkinfo_shapes.specs.Shapes.{IsPlain}
+use Rattle.linkinfo_shapes.specs.Shapes.{Carrier, IsPlain, means}
 use Rattle.linkinfo_shapes.specs.declared.shape.Shape.{Shape}
 use Rattle.linkinfo_shapes.specs.declared.shape.Shape.TheVariants.{Nested, SelfList, V4List, V6List}
 use Rattle.linkinfo_table.specs.Contents.{
   Contents,
   ListOf,
+  Listed,
   NoList,
   contents_either,
   counted_in,
@@ -51,9 +54,13 @@ use Rattle.linkinfo_table.specs.FamilyRows.{
   Plain,
   Refuses,
   lookup_of,
+  own,
+  row_of,
 }
 use Rattle.linkinfo_table.specs.Lists.{headers_of, if_read}
+use Rattle.linkinfo_table.specs.Lookups.{LookupSays, MeansDatum}
 use Rattle.linkinfo_table.specs.Payloads.{IsExact}
+use Rattle.linkinfo_table.specs.Rows.{labelled, row_meaning}
 use Rattle.linkinfo_table.specs.declared.lookup.Lookup.{Lookup}
 use Rattle.linkinfo_table.specs.declared.lookup.Lookup.TheVariants as lookup
 
@@ -87,25 +94,44 @@ address_count width p = counted_in (λ a. length a.value == width) (λ _. 0) (nl
 
 -- ---- by shapes
 
--- a list of attributes of the family, which a request asks for as a whole, or one attribute after
--- the other
-abbrev pub IsListOf : Family → Bool → Contents → Type 0
-IsListOf family whole (ListOf l inside) = (l.family ≡ family) × (l.is_whole ≡ whole)
-IsListOf family whole (NoList place count) = ⊥
+-- What an attribute contains that has no list of a family in it: a list of addresses, or a single
+-- value. An attribute that is rejected by its type, or has an unknown one, has a single value.
+abbrev pub SaysNoList : Lookup → Contents → Type 0
+SaysNoList (lookup.Is SelfList) contents = ⊥
+SaysNoList (lookup.Is (Nested inner)) contents = ⊥
+SaysNoList (lookup.Is V4List) contents = contents ≡ NoList (address_place 4) (address_count 4)
+SaysNoList (lookup.Is V6List) contents = contents ≡ NoList (address_place 16) (address_count 16)
+SaysNoList _ contents = contents ≡ single_value
 
--- What payloads of a shape contain, in attributes of the family: a list of its own attributes, or
--- of those of another family, a list of addresses, or a single value.
-abbrev pub ShapeContains : Family → Shape → Contents → Type 0
-ShapeContains family SelfList contents = IsListOf family true contents
-ShapeContains family (Nested inner) contents = IsListOf inner false contents
-ShapeContains family V4List contents = contents ≡ NoList (address_place 4) (address_count 4)
-ShapeContains family V6List contents = contents ≡ NoList (address_place 16) (address_count 16)
-ShapeContains family _ contents = contents ≡ single_value
+-- The list in an attribute of the family: its own attributes, which a request asks for as a whole,
+-- or those of another family, one after the other.
+abbrev pub SaysList : Family → Lookup → Listed → Type 0
+SaysList family (lookup.Is SelfList) l = (l.family ≡ family) × (l.is_whole ≡ true)
+SaysList family (lookup.Is (Nested inner)) l = (l.family ≡ inner) × (l.is_whole ≡ false)
+SaysList family _ l = ⊥
 
--- an attribute that is rejected by its type, or has an unknown one, has a single value
+-- Whether an attribute is accepted, by the lookup of its type: by its shape, if that is one of the
+-- table of shapes; never with a type that is rejected; always with an unknown one.
+abbrev pub AcceptsBy : Attribute → Lookup → Bool → Type 0
+AcceptsBy a (lookup.Is shape) accepted = IsPlain shape → accepted ≡ is_ok (means shape a.value)
+AcceptsBy a (lookup.Refused cause) accepted = accepted ≡ false
+AcceptsBy a lookup.Unknown accepted = accepted ≡ true
+
+-- What attributes of a type contain, by the lookup of the type, in attributes of the family. In a
+-- list, at every depth, each type has a lookup in turn, by which its attributes are accepted, and
+-- that says what they contain.
 abbrev pub LookupContains : Family → Lookup → Contents → Type 0
-LookupContains family (lookup.Is shape) contents = ShapeContains family shape contents
-LookupContains family _ contents = contents ≡ single_value
+LookupContains family says (NoList place count) = SaysNoList says (NoList place count)
+LookupContains family says (ListOf l inside) =
+    SaysList family says l
+    × ((number : ℕ) →
+    (within : Lookup)
+    × ((a : Attribute) → masked a.kind ≡ number → AcceptsBy a within (l.accepts a))
+    × LookupContains l.family within (inside number))
+
+-- what payloads of a shape contain, in attributes of the family
+abbrev pub ShapeContains : Family → Shape → Contents → Type 0
+ShapeContains family shape contents = LookupContains family (lookup.Is shape) contents
 
 -- ---- of rows
 
@@ -161,6 +187,59 @@ pub both_contain : {F : Type 0} (family : Family) (r : FamilyRow F) (owned other
     LookupContains family (lookup_of r) (if owned then first else second)
 both_contain family r true others first second here there flat = here (λ e. absurd cc)
 both_contain family r false others first second here there flat = there flat
+
+-- an attribute is accepted by a row that has a shape of the table, rejects it, or is none
+pub flat_accepts : {X : Type 0} (f : Family) (other : DefaultNla → X) (r : FamilyRow X)
+    (a : Attribute) → IsFlat r →
+    AcceptsBy a (lookup_of r) (is_ok (row_meaning f other (row_of r) a))
+flat_accepts f other (Plain shape label) a h = λ _. go (means shape a.value)
+  where
+    go : (m : Result (Carrier shape) Cause) →
+        is_ok (labelled f (masked a.kind) label (own m)) ≡ is_ok m
+    go (Ok u) = refl
+    go (Err c) = refl
+flat_accepts f other (Custom shape nested codec label) a h = absurd h
+flat_accepts f other (Refuses cause) a h = refl
+flat_accepts f other Absent a h = refl
+
+-- ---- in a list of a family
+
+-- what the lookup of its type says of an attribute says whether it is accepted
+pub says_accepts : {C X : Type 0} (f : Family) (among : List Family) (keeping : DefaultNla → X)
+    (attribute : X → Attribute) (meaning : C → Attribute → Result X DecodeError) (a : Attribute)
+    (says : Lookup) (m : Result X DecodeError) →
+    LookupSays f among keeping attribute meaning a says m → AcceptsBy a says (is_ok m)
+says_accepts {X = X} f among keeping attribute meaning a (lookup.Is shape) m says =
+    λ plain. go (means shape a.value) (says.plain plain)
+  where
+    go : (r : Result (Carrier shape) Cause) → MeansDatum f attribute a shape r m →
+        is_ok m ≡ is_ok r
+    go (Ok u) h = ap (λ (z : Result X DecodeError). is_ok z) h.1
+    go (Err c) h = ap (λ (z : Result X DecodeError). is_ok z) h
+says_accepts {X = X} f among keeping attribute meaning a (lookup.Refused cause) m says =
+    ap (λ (z : Result X DecodeError). is_ok z) says
+says_accepts {X = X} f among keeping attribute meaning a lookup.Unknown m says =
+    ap (λ (z : Result X DecodeError). is_ok z) says
+
+-- each type in a list of attributes of a family contains what the family's lookup says
+pub list_describes : {C X : Type 0} (f : Family) (among : List Family) (keeping : DefaultNla → X)
+    (attribute : X → Attribute) (meaning : C → Attribute → Result X DecodeError)
+    (lookup : C → ℕ → Lookup) (contents : C → ℕ → Contents) (c : C) →
+    ((a : Attribute) →
+    LookupSays f among keeping attribute meaning a (lookup c (masked a.kind)) (meaning c a)) →
+    ((number : ℕ) → LookupContains f (lookup c number) (contents c number)) →
+    (number : ℕ) →
+    (within : Lookup)
+    × ((a : Attribute) → masked a.kind ≡ number → AcceptsBy a within (is_ok (meaning c a)))
+    × LookupContains f within (contents c number)
+list_describes f among keeping attribute meaning lookup contents c says describes number = (
+  lookup c number,
+  λ a typed.
+      subst (λ (n : ℕ). AcceptsBy a (lookup c n) (is_ok (meaning c a))) typed
+      (says_accepts f among keeping attribute meaning a (lookup c (masked a.kind)) (meaning c a)
+      (says a)),
+  describes number,
+)
 
 -- ---- headers
 

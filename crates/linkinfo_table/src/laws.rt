@@ -104,8 +104,9 @@ pub fn lawful<F: LinkFamily>()
 
 /// The result of `LinkFamily::shape` for an attribute's type without flag bits agrees with what the
 /// attribute means (`LookupSays`), and with what it contains, where its error is looked for, and in
-/// which list it is compared (`LookupContains`). The attribute's own error, any but one of a list
-/// inside it, has the family and that type.
+/// which list it is compared (`LookupContains`): in a list inside it, at every depth, each type has
+/// a lookup in turn, which says so of its attributes. The attribute's own error, any but one of a
+/// list inside it, has the family and that type.
 pub fn looked_up<F: LinkFamily>(ctx: F::Context)
     ensures says { (a : Attribute) →
         LookupSays F.FAMILY F.inside F.keeping F.attribute F.meaning a

@@ -4,7 +4,7 @@ ghost use Rattle.std.specs.Prelude.{◌∷◌, map, refl};
 ghost use Rattle.nla_frame.specs.Attribute.{list_string};
 ghost use Rattle.nla_frame.specs.NlaItems.{nla_items};
 ghost use Rattle.linkinfo_table.specs.Contents.{ListOf, listed};
-ghost use Rattle.linkinfo_table.specs.Described.{list_counts};
+ghost use Rattle.linkinfo_table.specs.Described.{list_counts, list_describes};
 ghost use Rattle.linkinfo_table.specs.Lists.{AllWell, alike_pairs, headers_of, memory_of, values};
 ghost use Rattle.linkinfo_table.specs.ListPayload.{list_contained, list_is_payload};
 ghost use Rattle.linkinfo_table.specs.SelfList.{inside};
@@ -49,7 +49,11 @@ impl<F: LinkFamily<Context = ()> + Eq + ExactEq> LinkPayload for Nlas<F> {
         F.alike F.needs_memory F.attribute F.well F.contents F.LinkFamily.IS_SET
         (F.LinkFamily.lawful tt) };
 
-    ghost described = { λ _. (refl, refl) };
+    ghost described = { λ _. (
+      (refl, refl),
+      list_describes F.LinkFamily.FAMILY F.LinkFamily.inside F.keeping F.attribute
+          F.meaning F.lookup F.contents tt (F.looked_up tt) (F.described tt),
+    ) };
 
     ghost counted = { λ p.
         list_counts (F.meaning tt) (F.headers tt) (F.contents tt) (F.counted tt) (nla_items p) };

@@ -79,8 +79,8 @@ gre_rows =
 
 abbrev pub gre_attribute : InfoGre → Attribute
 gre_attribute (Link n) = typed 1 Le32 n
-gre_attribute (IFlags flags) = typed 2 Be16 flags.0
-gre_attribute (OFlags flags) = typed 3 Be16 flags.0
+gre_attribute (IFlags x) = typed 2 Be16 x.0
+gre_attribute (OFlags x) = typed 3 Be16 x.0
 gre_attribute (IKey n) = typed 4 Be32 n
 gre_attribute (OKey n) = typed 5 Be32 n
 gre_attribute (Local a) = typed 6 V4 a
@@ -89,7 +89,7 @@ gre_attribute (Ttl n) = typed 8 U8 n
 gre_attribute (Tos n) = typed 9 U8 n
 gre_attribute (PathMTUDiscovery b) = typed 10 TruthOne b
 gre_attribute (EncapType encapsulation) = typed 14 Le16 (gre_encap_type_number encapsulation)
-gre_attribute (EncapFlags flags) = typed 15 Le16 flags.0
+gre_attribute (EncapFlags x) = typed 15 Le16 x.0
 gre_attribute (SourcePort n) = typed 16 Be16 n
 gre_attribute (DestinationPort n) = typed 17 Be16 n
 gre_attribute CollectMetadata = typed 18 Mark tt

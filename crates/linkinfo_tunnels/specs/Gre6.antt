@@ -80,8 +80,8 @@ gre6_rows =
 
 abbrev pub gre6_attribute : InfoGre6 → Attribute
 gre6_attribute (Link n) = typed 1 Le32 n
-gre6_attribute (IFlags flags) = typed 2 Be16 flags.0
-gre6_attribute (OFlags flags) = typed 3 Be16 flags.0
+gre6_attribute (IFlags x) = typed 2 Be16 x.0
+gre6_attribute (OFlags x) = typed 3 Be16 x.0
 gre6_attribute (IKey n) = typed 4 Be32 n
 gre6_attribute (OKey n) = typed 5 Be32 n
 gre6_attribute (Local a) = typed 6 V6 a
@@ -91,7 +91,7 @@ gre6_attribute (Tos n) = typed 9 U8 n
 gre6_attribute (EncapLimit n) = typed 11 U8 n
 gre6_attribute (FlowLabel n) = typed 12 Be32 n
 gre6_attribute (EncapType encapsulation) = typed 14 Le16 (gre_encap_type_number encapsulation)
-gre6_attribute (EncapFlags flags) = typed 15 Le16 flags.0
+gre6_attribute (EncapFlags x) = typed 15 Le16 x.0
 gre6_attribute (SourcePort n) = typed 16 Be16 n
 gre6_attribute (DestinationPort n) = typed 17 Be16 n
 gre6_attribute CollectMetadata = typed 18 Mark tt

@@ -20,8 +20,8 @@ use Rattle.linkinfo_tunnels.specs.declared.gre6.InfoGre6.TheVariants as gre6
 
 abbrev pub gre6_conditions : InfoGre6 → Type 0
 gre6_conditions (gre6.Link n) = n < 2 ^ 32
-gre6_conditions (gre6.IFlags flags) = flags.0 < 2 ^ 16
-gre6_conditions (gre6.OFlags flags) = flags.0 < 2 ^ 16
+gre6_conditions (gre6.IFlags x) = x.0 < 2 ^ 16
+gre6_conditions (gre6.OFlags x) = x.0 < 2 ^ 16
 gre6_conditions (gre6.IKey n) = n < 2 ^ 32
 gre6_conditions (gre6.OKey n) = n < 2 ^ 32
 gre6_conditions (gre6.Local a) = IsIpv6 a
@@ -31,7 +31,7 @@ gre6_conditions (gre6.Tos n) = n < 256
 gre6_conditions (gre6.EncapLimit n) = n < 256
 gre6_conditions (gre6.FlowLabel n) = n < 2 ^ 32
 gre6_conditions (gre6.EncapType x) = IsNumber gre_encap_type_table (2 ^ 16) x
-gre6_conditions (gre6.EncapFlags flags) = flags.0 < 2 ^ 16
+gre6_conditions (gre6.EncapFlags x) = x.0 < 2 ^ 16
 gre6_conditions (gre6.SourcePort n) = n < 2 ^ 16
 gre6_conditions (gre6.DestinationPort n) = n < 2 ^ 16
 gre6_conditions (gre6.FwMask n) = n < 2 ^ 32

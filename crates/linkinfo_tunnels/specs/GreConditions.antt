@@ -20,8 +20,8 @@ use Rattle.linkinfo_tunnels.specs.declared.gre.InfoGre.TheVariants as gre
 
 abbrev pub gre_conditions : InfoGre → Type 0
 gre_conditions (gre.Link n) = n < 2 ^ 32
-gre_conditions (gre.IFlags flags) = flags.0 < 2 ^ 16
-gre_conditions (gre.OFlags flags) = flags.0 < 2 ^ 16
+gre_conditions (gre.IFlags x) = x.0 < 2 ^ 16
+gre_conditions (gre.OFlags x) = x.0 < 2 ^ 16
 gre_conditions (gre.IKey n) = n < 2 ^ 32
 gre_conditions (gre.OKey n) = n < 2 ^ 32
 gre_conditions (gre.Local a) = IsIpv4 a
@@ -29,7 +29,7 @@ gre_conditions (gre.Remote a) = IsIpv4 a
 gre_conditions (gre.Ttl n) = n < 256
 gre_conditions (gre.Tos n) = n < 256
 gre_conditions (gre.EncapType x) = IsNumber gre_encap_type_table (2 ^ 16) x
-gre_conditions (gre.EncapFlags flags) = flags.0 < 2 ^ 16
+gre_conditions (gre.EncapFlags x) = x.0 < 2 ^ 16
 gre_conditions (gre.SourcePort n) = n < 2 ^ 16
 gre_conditions (gre.DestinationPort n) = n < 2 ^ 16
 gre_conditions (gre.FwMask n) = n < 2 ^ 32

@@ -75,9 +75,7 @@ use Rattle.linkinfo_numbers.specs.Vlan.{
   vlan_protocol_table_holds,
 }
 use Rattle.linkinfo_numbers.specs.Bond.{on_off, on_off_number, on_off_table_holds}
-use Rattle.linkinfo_numbers.specs.declared.bridge.BridgeBooleanOptionFlags.{
-  BridgeBooleanOptionFlags,
-}
+use Rattle.linkinfo_numbers.specs.declared.bridge.BridgeBooleanOptions.{BridgeBooleanOptions}
 use Rattle.linkinfo_table.specs.Labels.{each_keeps}
 use Rattle.linkinfo_payloads.specs.Payloads.{bridge_id_codec, bridge_id_payload}
 use Rattle.linkinfo_typed.specs.BridgeQuerierState.{
@@ -139,9 +137,10 @@ use Rattle.linkinfo_typed.specs.declared.bridge.InfoBridge.TheVariants.{
   Other,
 }
 
--- flags, then their mask
-abbrev pub flags_under_mask : ℕ × ℕ → BridgeBooleanOptionFlags × BridgeBooleanOptionFlags
-flags_under_mask pair = (bridge_boolean_option_flags pair.0, bridge_boolean_option_flags pair.1)
+-- both sets of their numbers
+abbrev pub both_sets : ℕ × ℕ → BridgeBooleanOptions
+both_sets pair =
+    record { value = bridge_boolean_option_flags pair.0; mask = bridge_boolean_option_flags pair.1 }
 
 -- the rows with a shape of the table
 abbrev pub bridge_plain : List (PlainRow InfoBridge)
@@ -188,7 +187,7 @@ bridge_plain =
     row 43 U8 (λ n. MulticastIgmpVersion n) ∷
     row 44 U8 (λ n. MulticastMldVersion n) ∷
     row 45 U8 (λ n. VlanStatsPerPort (on_off n)) ∷
-    row 46 FlagPair (λ pair. MultiBoolOpt (flags_under_mask pair)) ∷
+    row 46 FlagPair (λ pair. MultiBoolOpt (both_sets pair)) ∷
     row 48 Le32 (λ n. FdbNLearned n) ∷
     row 49 Le32 (λ n. FdbMaxLearned n) ∷
     row 50 Le32 (λ n. StpMode (bridge_stp_mode n)) ∷
@@ -239,7 +238,7 @@ bridge_attribute (MulticastStatsEnabled b) = typed 42 Truth b
 bridge_attribute (MulticastIgmpVersion n) = typed 43 U8 n
 bridge_attribute (MulticastMldVersion n) = typed 44 U8 n
 bridge_attribute (VlanStatsPerPort switch) = typed 45 U8 (on_off_number switch)
-bridge_attribute (MultiBoolOpt under) = typed 46 FlagPair (under.0.0, under.1.0)
+bridge_attribute (MultiBoolOpt x) = typed 46 FlagPair (x.value.0, x.mask.0)
 bridge_attribute (MulticastQuerierState xs) =
     record {
       kind = written_kind true 47;

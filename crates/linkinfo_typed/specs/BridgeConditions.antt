@@ -79,7 +79,7 @@ bridge_conditions (bridge.VlanStatsEnabled x) = IsNumber on_off_table 256 x
 bridge_conditions (bridge.MulticastIgmpVersion n) = n < 256
 bridge_conditions (bridge.MulticastMldVersion n) = n < 256
 bridge_conditions (bridge.VlanStatsPerPort x) = IsNumber on_off_table 256 x
-bridge_conditions (bridge.MultiBoolOpt under) = (under.0.0 < 2 ^ 32) × (under.1.0 < 2 ^ 32)
+bridge_conditions (bridge.MultiBoolOpt x) = (x.value.0 < 2 ^ 32) × (x.mask.0 < 2 ^ 32)
 bridge_conditions (bridge.MulticastQuerierState xs) =
     AllByRecursion bridge_querier_state_conditions xs
 bridge_conditions (bridge.FdbNLearned n) = n < 2 ^ 32
@@ -107,8 +107,8 @@ bridge_stated = elim [
       (λ y. bridge.VlanStatsEnabled y) bridge_conditions (λ _ is. is) (λ _ is. is) x
   | bridge.VlanStatsPerPort x ↦ number_label on_off_table_holds 256
       (λ y. bridge.VlanStatsPerPort y) bridge_conditions (λ _ is. is) (λ _ is. is) x
-  | bridge.MultiBoolOpt under ↦
-      (λ w. subst bridge_conditions w.2 w.1, λ h. ((under.0.0, under.1.0), h, refl))
+  | bridge.MultiBoolOpt x ↦
+      (λ w. subst bridge_conditions w.2 w.1, λ h. ((x.value.0, x.mask.0), h, refl))
   | bridge.MulticastQuerierState xs ↦
       plain_label (AllWell _) (λ z. bridge.MulticastQuerierState z) bridge_conditions
       (λ u. (each_stated _ _ bridge_querier_state_stated u).0)

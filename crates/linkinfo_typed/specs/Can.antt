@@ -55,12 +55,13 @@ use Rattle.linkinfo_shapes.specs.declared.shape.Shape.TheVariants.{
 }
 use Rattle.linkinfo_numbers.specs.Table.{key-value_of}
 use Rattle.linkinfo_numbers.specs.Can.{
+  can_clock,
   can_state,
   can_state_number,
   can_state_table_holds,
   can_ctrl_mode_flags,
 }
-use Rattle.linkinfo_numbers.specs.declared.can.CanCtrlModeFlags.{CanCtrlModeFlags}
+use Rattle.linkinfo_numbers.specs.declared.can.CanCtrlMode.{CanCtrlMode}
 use Rattle.linkinfo_table.specs.Labels.{each_keeps}
 use Rattle.linkinfo_payloads.specs.Payloads.{
   can_berr_counter_codec,
@@ -108,16 +109,16 @@ use Rattle.linkinfo_typed.specs.declared.can.InfoCan.TheVariants.{
   Other,
 }
 
--- flags, then their mask
-abbrev pub flags_under_mask : ℕ × ℕ → CanCtrlModeFlags × CanCtrlModeFlags
-flags_under_mask pair = (can_ctrl_mode_flags pair.0, can_ctrl_mode_flags pair.1)
+-- both sets of their numbers
+abbrev pub both_sets : ℕ × ℕ → CanCtrlMode
+both_sets pair = record { mask = can_ctrl_mode_flags pair.0; flags = can_ctrl_mode_flags pair.1 }
 
 -- the rows with a shape of the table
 abbrev pub can_plain : List (PlainRow InfoCan)
 can_plain =
-    row 3 Le32 (λ n. Clock n) ∷
+    row 3 Le32 (λ n. Clock (can_clock n)) ∷
     row 4 Le32 (λ n. State (can_state n)) ∷
-    row 5 FlagPair (λ pair. CtrlMode (flags_under_mask pair)) ∷
+    row 5 FlagPair (λ pair. CtrlMode (both_sets pair)) ∷
     row 6 Le32 (λ n. RestartMs n) ∷
     row 7 Le32 (λ n. Restart n) ∷
     row 11 Le16 (λ n. Termination n) ∷
@@ -127,9 +128,9 @@ can_plain =
 abbrev pub can_attribute : InfoCan → Attribute
 can_attribute (BitTiming x) = record { kind = 1; value = can_bit_timing_codec.canon x }
 can_attribute (BitTimingConst x) = record { kind = 2; value = can_bit_timing_const_codec.canon x }
-can_attribute (Clock n) = typed 3 Le32 n
+can_attribute (Clock x) = typed 3 Le32 x.freq
 can_attribute (State state) = typed 4 Le32 (can_state_number state)
-can_attribute (CtrlMode under) = typed 5 FlagPair (under.0.0, under.1.0)
+can_attribute (CtrlMode x) = typed 5 FlagPair (x.mask.0, x.flags.0)
 can_attribute (RestartMs n) = typed 6 Le32 n
 can_attribute (Restart n) = typed 7 Le32 n
 can_attribute (BerrCounter x) = record { kind = 8; value = can_berr_counter_codec.canon x }

@@ -55,9 +55,9 @@ use Rattle.linkinfo_typed.specs.declared.can.InfoCan.TheVariants as can
 abbrev pub can_conditions : InfoCan → Type 0
 can_conditions (can.BitTiming x) = can_bit_timing_codec.Holds x
 can_conditions (can.BitTimingConst x) = can_bit_timing_const_codec.Holds x
-can_conditions (can.Clock n) = n < 2 ^ 32
+can_conditions (can.Clock x) = x.freq < 2 ^ 32
 can_conditions (can.State x) = IsNumber can_state_table (2 ^ 32) x
-can_conditions (can.CtrlMode under) = (under.0.0 < 2 ^ 32) × (under.1.0 < 2 ^ 32)
+can_conditions (can.CtrlMode x) = (x.mask.0 < 2 ^ 32) × (x.flags.0 < 2 ^ 32)
 can_conditions (can.RestartMs n) = n < 2 ^ 32
 can_conditions (can.Restart n) = n < 2 ^ 32
 can_conditions (can.BerrCounter x) = can_berr_counter_codec.Holds x
@@ -90,8 +90,8 @@ unfolding WellFormed
 can_stated = elim [
   | can.State x ↦ number_label can_state_table_holds (2 ^ 32)
       (λ y. can.State y) can_conditions (λ _ is. is) (λ _ is. is) x
-  | can.CtrlMode under ↦
-      (λ w. subst can_conditions w.2 w.1, λ h. ((under.0.0, under.1.0), h, refl))
+  | can.CtrlMode x ↦
+      (λ w. subst can_conditions w.2 w.1, λ h. ((x.mask.0, x.flags.0), h, refl))
   | can.Tdc xs ↦
       plain_label (AllWell _) (λ z. can.Tdc z) can_conditions
       (λ u. (each_stated _ _ can_tdc_stated u).0)

@@ -23,7 +23,7 @@ can_ctrl_mode_ext_rows =
     []
 
 abbrev pub can_ctrl_mode_ext_attribute : CanCtrlModeExt → Attribute
-can_ctrl_mode_ext_attribute (Supported flags) = typed 1 Le32 flags.0
+can_ctrl_mode_ext_attribute (Supported x) = typed 1 Le32 x.0
 can_ctrl_mode_ext_attribute (Other nla) = attribute_of nla
 
 pub can_ctrl_mode_ext_keeps : EachKeeps can_ctrl_mode_ext_attribute can_ctrl_mode_ext_rows

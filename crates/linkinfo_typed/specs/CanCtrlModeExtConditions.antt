@@ -11,7 +11,7 @@ use Rattle.linkinfo_typed.specs.declared.can_ctrl_mode_ext.CanCtrlModeExt.{CanCt
 use Rattle.linkinfo_typed.specs.declared.can_ctrl_mode_ext.CanCtrlModeExt.TheVariants as can_ctrl_mode_ext
 
 abbrev pub can_ctrl_mode_ext_conditions : CanCtrlModeExt → Type 0
-can_ctrl_mode_ext_conditions (can_ctrl_mode_ext.Supported flags) = flags.0 < 2 ^ 32
+can_ctrl_mode_ext_conditions (can_ctrl_mode_ext.Supported x) = x.0 < 2 ^ 32
 can_ctrl_mode_ext_conditions (can_ctrl_mode_ext.Other d) = IsUnknown can_ctrl_mode_ext_rows d
 
 abbrev can_ctrl_mode_ext_is_other : CanCtrlModeExt → Bool

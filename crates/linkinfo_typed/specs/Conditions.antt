@@ -25,6 +25,8 @@ pub use Rattle.linkinfo_typed.specs.CanPwmConditions.{can_pwm_conditions, can_pw
 pub use Rattle.linkinfo_typed.specs.CanTdcConditions.{can_tdc_conditions, can_tdc_stated}
 pub use Rattle.linkinfo_typed.specs.DsaConditions.{dsa_conditions, dsa_stated}
 pub use Rattle.linkinfo_typed.specs.HsrConditions.{hsr_conditions, hsr_stated}
+pub use Rattle.linkinfo_typed.specs.OvpnConditions.{ovpn_conditions, ovpn_stated}
+pub use Rattle.linkinfo_typed.specs.PppConditions.{ppp_conditions, ppp_stated}
 pub use Rattle.linkinfo_typed.specs.QosConditions.{
   vlan_qos_mapping_conditions,
   vlan_qos_mapping_stated,

@@ -23,6 +23,10 @@ pub mod Dsa
 pub mod DsaConditions
 pub mod Hsr
 pub mod HsrConditions
+pub mod Ovpn
+pub mod OvpnConditions
+pub mod Ppp
+pub mod PppConditions
 pub mod Qos
 pub mod QosConditions
 pub mod Tun

@@ -65,21 +65,21 @@ use Rattle.linkinfo_typed.specs.declared.vlan.InfoVlan.TheVariants.{
   Other,
 }
 
--- flags, then their mask
-abbrev pub flags_under_mask : ℕ × ℕ → VlanFlags × VlanFlags
-flags_under_mask pair = (vlan_flags pair.0, vlan_flags pair.1)
+-- both sets of their numbers
+abbrev pub both_sets : ℕ × ℕ → VlanFlags × VlanFlags
+both_sets pair = (vlan_flags pair.0, vlan_flags pair.1)
 
 -- the rows with a shape of the table
 abbrev pub vlan_plain : List (PlainRow InfoVlan)
 vlan_plain =
     row 1 Le16 (λ n. Id n) ∷
-    row 2 FlagPair (λ pair. Flags (flags_under_mask pair)) ∷
+    row 2 FlagPair (λ pair. Flags (both_sets pair)) ∷
     row 5 Be16 (λ n. Protocol (vlan_protocol n)) ∷
     []
 
 abbrev pub vlan_attribute : InfoVlan → Attribute
 vlan_attribute (Id n) = typed 1 Le16 n
-vlan_attribute (Flags under) = typed 2 FlagPair (under.0.0, under.1.0)
+vlan_attribute (Flags x) = typed 2 FlagPair (x.0.0, x.1.0)
 vlan_attribute (EgressQos xs) =
     record { kind = 3; value = list_string (map vlan_qos_mapping_attribute xs) }
 vlan_attribute (IngressQos xs) =

@@ -26,7 +26,7 @@ use Rattle.linkinfo_typed.specs.declared.vlan.InfoVlan.TheVariants as vlan
 
 abbrev pub vlan_conditions : InfoVlan → Type 0
 vlan_conditions (vlan.Id n) = n < 2 ^ 16
-vlan_conditions (vlan.Flags under) = (under.0.0 < 2 ^ 32) × (under.1.0 < 2 ^ 32)
+vlan_conditions (vlan.Flags x) = (x.0.0 < 2 ^ 32) × (x.1.0 < 2 ^ 32)
 vlan_conditions (vlan.EgressQos xs) = AllByRecursion vlan_qos_mapping_conditions xs
 vlan_conditions (vlan.IngressQos xs) = AllByRecursion vlan_qos_mapping_conditions xs
 vlan_conditions (vlan.Protocol x) = IsNumber vlan_protocol_table (2 ^ 16) x
@@ -40,8 +40,8 @@ pub vlan_stated : (x : InfoVlan) → WellFormed (λ d. vlan.Other d) vlan_attrib
     (λ n. row_of (vlan_rows n)) x ↔ vlan_conditions x
 unfolding WellFormed
 vlan_stated = elim [
-  | vlan.Flags under ↦
-      (λ w. subst vlan_conditions w.2 w.1, λ h. ((under.0.0, under.1.0), h, refl))
+  | vlan.Flags x ↦
+      (λ w. subst vlan_conditions w.2 w.1, λ h. ((x.0.0, x.1.0), h, refl))
   | vlan.EgressQos xs ↦
       plain_label (AllWell _) (λ z. vlan.EgressQos z) vlan_conditions
       (λ u. (each_stated _ _ vlan_qos_mapping_stated u).0)

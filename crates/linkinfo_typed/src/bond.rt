@@ -96,7 +96,7 @@ pub enum InfoBond {
     AdLacpRate(BondLacpRate),
     /// What an aggregator is chosen by (`IFLA_BOND_AD_SELECT`), one byte.
     AdSelect(BondAdSelect),
-    /// Active aggregator of LACP (`IFLA_BOND_AD_INFO`), a nested list.
+    /// Active aggregator of LACP; read only (`IFLA_BOND_AD_INFO`), a nested list.
     AdInfo(Nlas<BondAdInfo>),
     /// Priority of the system in LACP (`IFLA_BOND_AD_ACTOR_SYS_PRIO`), little-endian.
     AdActorSysPrio(u16),

@@ -24,15 +24,15 @@ use std::alloc::{AllocError, Global};
 /// An attribute inside `IFLA_BOND_AD_INFO` of a `bond` link (include/uapi/linux/if_link.h).
 #[derive(Debug, PartialEq, Eq, Drop)]
 pub enum BondAdInfo {
-    /// Number of the active aggregator (`IFLA_BOND_AD_INFO_AGGREGATOR`), little-endian.
+    /// Number of the active aggregator; read only (`IFLA_BOND_AD_INFO_AGGREGATOR`), little-endian.
     Aggregator(u16),
-    /// Number of its ports (`IFLA_BOND_AD_INFO_NUM_PORTS`), little-endian.
+    /// Number of its ports; read only (`IFLA_BOND_AD_INFO_NUM_PORTS`), little-endian.
     NumPorts(u16),
-    /// Key of its ports (`IFLA_BOND_AD_INFO_ACTOR_KEY`), little-endian.
+    /// Key of its ports; read only (`IFLA_BOND_AD_INFO_ACTOR_KEY`), little-endian.
     ActorKey(u16),
-    /// Key of the partner's ports (`IFLA_BOND_AD_INFO_PARTNER_KEY`), little-endian.
+    /// Key of the partner's ports; read only (`IFLA_BOND_AD_INFO_PARTNER_KEY`), little-endian.
     PartnerKey(u16),
-    /// Hardware address of the partner (`IFLA_BOND_AD_INFO_PARTNER_MAC`), six bytes.
+    /// Hardware address of the partner; read only (`IFLA_BOND_AD_INFO_PARTNER_MAC`), six bytes.
     PartnerMac([u8; 6]),
     /// An opaque attribute, of a type that has no variant here, kept verbatim.
     Other(DefaultNla),

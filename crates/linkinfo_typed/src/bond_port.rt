@@ -26,30 +26,34 @@ use std::alloc::{AllocError, Global};
 /// An attribute in the data of a port of a bond (include/uapi/linux/if_link.h).
 #[derive(Debug, PartialEq, Eq, Drop)]
 pub enum InfoBondPort {
-    /// Whether the port is used (`IFLA_BOND_SLAVE_STATE`), one byte.
+    /// Whether the port is used; read only (`IFLA_BOND_SLAVE_STATE`), one byte.
     BondPortState(BondPortState),
-    /// What the monitor says of the port's link (`IFLA_BOND_SLAVE_MII_STATUS`), one byte.
+    /// What the monitor says of the port's link; read only (`IFLA_BOND_SLAVE_MII_STATUS`), one
+    /// byte.
     MiiStatus(MiiStatus),
-    /// How often the link failed (`IFLA_BOND_SLAVE_LINK_FAILURE_COUNT`), little-endian.
+    /// How often the link failed; read only (`IFLA_BOND_SLAVE_LINK_FAILURE_COUNT`), little-endian.
     LinkFailureCount(u32),
-    /// Permanent hardware address, as long as addresses of the port's type are
+    /// Permanent hardware address, as long as addresses of the port's type are; read only
     /// (`IFLA_BOND_SLAVE_PERM_HWADDR`), opaque bytes.
     PermHwaddr(Bytes),
     /// Number of its queue (`IFLA_BOND_SLAVE_QUEUE_ID`), little-endian.
     QueueId(u16),
-    /// Number of its aggregator, by LACP (`IFLA_BOND_SLAVE_AD_AGGREGATOR_ID`), little-endian.
+    /// Number of its aggregator, by LACP; read only (`IFLA_BOND_SLAVE_AD_AGGREGATOR_ID`),
+    /// little-endian.
     AdAggregatorId(u16),
-    /// Its state by LACP (`IFLA_BOND_SLAVE_AD_ACTOR_OPER_PORT_STATE`), one byte.
+    /// Its state by LACP; read only (`IFLA_BOND_SLAVE_AD_ACTOR_OPER_PORT_STATE`), one byte.
     AdActorOperPortState(LacpState),
-    /// The partner's state by LACP (`IFLA_BOND_SLAVE_AD_PARTNER_OPER_PORT_STATE`), little-endian.
+    /// The partner's state by LACP; read only (`IFLA_BOND_SLAVE_AD_PARTNER_OPER_PORT_STATE`),
+    /// little-endian.
     AdPartnerOperPortState(LacpState16),
     /// Priority for the choice of the active port (`IFLA_BOND_SLAVE_PRIO`), little-endian.
     Prio(i32),
     /// Priority of the port by LACP (`IFLA_BOND_SLAVE_ACTOR_PORT_PRIO`), little-endian.
     ActorPortPrio(u16),
-    /// What the churn machine says of the port (`IFLA_BOND_SLAVE_AD_CHURN_ACTOR_STATE`), one byte.
+    /// What the churn machine says of the port; read only (`IFLA_BOND_SLAVE_AD_CHURN_ACTOR_STATE`),
+    /// one byte.
     AdChurnActorState(ChurnState),
-    /// What the churn machine says of the partner's port
+    /// What the churn machine says of the partner's port; read only
     /// (`IFLA_BOND_SLAVE_AD_CHURN_PARTNER_STATE`), one byte.
     AdChurnPartnerState(ChurnState),
     /// An opaque attribute, of a type that has no variant here, kept verbatim.

@@ -2,7 +2,7 @@
 //! Bridges.
 
 ghost use Rattle.linkinfo_typed.specs.Bridge.{
-  flags_under_mask,
+  both_sets,
   bridge_attribute,
   bridge_elsewhere,
   bridge_flat_elsewhere,
@@ -28,8 +28,8 @@ ghost use Rattle.std.specs.Prelude.{◌≡◌, false, true, refl};
 use crate::bridge_querier_state::BridgeQuerierState;
 use bitflags::Flags;
 use linkinfo_numbers::{
-    BridgeBooleanOptionFlags, BridgeMulticastRouterType, BridgeStpMode, BridgeStpState, OnOff,
-    VlanProtocol,
+    BridgeBooleanOptionFlags, BridgeBooleanOptions, BridgeMulticastRouterType, BridgeStpMode,
+    BridgeStpState, OnOff, VlanProtocol,
 };
 use linkinfo_payloads::BridgeId;
 use linkinfo_table::{
@@ -65,28 +65,29 @@ pub enum InfoBridge {
     VlanProtocol(VlanProtocol),
     /// Mask of the link-local groups that are forwarded (`IFLA_BR_GROUP_FWD_MASK`), little-endian.
     GroupFwdMask(u16),
-    /// Bridge that is the root (`IFLA_BR_ROOT_ID`), eight bytes.
+    /// Bridge that is the root; read only (`IFLA_BR_ROOT_ID`), eight bytes.
     RootId(BridgeId),
-    /// Identifier of the bridge (`IFLA_BR_BRIDGE_ID`), eight bytes.
+    /// Identifier of the bridge; read only (`IFLA_BR_BRIDGE_ID`), eight bytes.
     BridgeId(BridgeId),
-    /// Number of the port toward the root (`IFLA_BR_ROOT_PORT`), little-endian.
+    /// Number of the port toward the root; read only (`IFLA_BR_ROOT_PORT`), little-endian.
     RootPort(u16),
-    /// Cost of the path to the root (`IFLA_BR_ROOT_PATH_COST`), little-endian.
+    /// Cost of the path to the root; read only (`IFLA_BR_ROOT_PATH_COST`), little-endian.
     RootPathCost(u32),
-    /// Whether the topology changes, 0 or 1 (`IFLA_BR_TOPOLOGY_CHANGE`), one byte.
+    /// Whether the topology changes, 0 or 1; read only (`IFLA_BR_TOPOLOGY_CHANGE`), one byte.
     TopologyChange(u8),
-    /// Whether the bridge detected that the topology changes, 0 or 1
+    /// Whether the bridge detected that the topology changes, 0 or 1; read only
     /// (`IFLA_BR_TOPOLOGY_CHANGE_DETECTED`), one byte.
     TopologyChangeDetected(u8),
-    /// Time until the next BPDU, in 1/100 s (`IFLA_BR_HELLO_TIMER`), little-endian.
+    /// Time until the next BPDU, in 1/100 s; read only (`IFLA_BR_HELLO_TIMER`), little-endian.
     HelloTimer(u64),
-    /// Time until the next notification of a change, in 1/100 s (`IFLA_BR_TCN_TIMER`),
+    /// Time until the next notification of a change, in 1/100 s; read only (`IFLA_BR_TCN_TIMER`),
     /// little-endian.
     TcnTimer(u64),
-    /// Time until the change of the topology ends, in 1/100 s (`IFLA_BR_TOPOLOGY_CHANGE_TIMER`),
-    /// little-endian.
+    /// Time until the change of the topology ends, in 1/100 s; read only
+    /// (`IFLA_BR_TOPOLOGY_CHANGE_TIMER`), little-endian.
     TopologyChangeTimer(u64),
-    /// Time until old addresses are dropped, in 1/100 s (`IFLA_BR_GC_TIMER`), little-endian.
+    /// Time until old addresses are dropped, in 1/100 s; read only (`IFLA_BR_GC_TIMER`),
+    /// little-endian.
     GcTimer(u64),
     /// Group address to which BPDUs are sent (`IFLA_BR_GROUP_ADDR`), six bytes.
     GroupAddr([u8; 6]),
@@ -101,7 +102,7 @@ pub enum InfoBridge {
     MulticastQueryUseIfaddr(bool),
     /// Whether the bridge sends queries (`IFLA_BR_MCAST_QUERIER`), one byte.
     MulticastQuerier(bool),
-    /// Not used any more (`IFLA_BR_MCAST_HASH_ELASTICITY`), little-endian.
+    /// Not used any more; read only (`IFLA_BR_MCAST_HASH_ELASTICITY`), little-endian.
     MulticastHashElasticity(u32),
     /// Most groups that are kept (`IFLA_BR_MCAST_HASH_MAX`), little-endian.
     MulticastHashMax(u32),
@@ -146,10 +147,10 @@ pub enum InfoBridge {
     VlanStatsPerPort(OnOff),
     /// Options, and the mask of the options to change (`IFLA_BR_MULTI_BOOLOPT`, `struct
     /// br_boolopt_multi`), each little-endian.
-    MultiBoolOpt((BridgeBooleanOptionFlags, BridgeBooleanOptionFlags)),
-    /// Queriers that the bridge knows (`IFLA_BR_MCAST_QUERIER_STATE`), a nested list.
+    MultiBoolOpt(BridgeBooleanOptions),
+    /// Queriers that the bridge knows; read only (`IFLA_BR_MCAST_QUERIER_STATE`), a nested list.
     MulticastQuerierState(Nlas<BridgeQuerierState>),
-    /// Number of learned addresses (`IFLA_BR_FDB_N_LEARNED`), little-endian.
+    /// Number of learned addresses; read only (`IFLA_BR_FDB_N_LEARNED`), little-endian.
     FdbNLearned(u32),
     /// Most addresses that are learned, 0 for any number (`IFLA_BR_FDB_MAX_LEARNED`),
     /// little-endian.
@@ -257,23 +258,22 @@ impl RowFamily for InfoBridge {
     }
 }
 
-/// Makes flags and their mask from two numbers.
-fn flags_of(pair: (u32, u32)) -> (BridgeBooleanOptionFlags, BridgeBooleanOptionFlags)
-    ensures { result ≡ flags_under_mask pair }
+/// Makes both sets of their numbers.
+fn flags_of(pair: (u32, u32)) -> BridgeBooleanOptions
+    ensures { result ≡ both_sets pair }
 {
-    let (flags, mask) = pair;
-    (
-        BridgeBooleanOptionFlags::from_bits_retain(flags),
-        BridgeBooleanOptionFlags::from_bits_retain(mask),
-    )
+    let (value, mask) = pair;
+    BridgeBooleanOptions {
+        value: BridgeBooleanOptionFlags::from_bits_retain(value),
+        mask: BridgeBooleanOptionFlags::from_bits_retain(mask),
+    }
 }
 
-/// The two numbers of flags and their mask.
-fn pair_of(under: (BridgeBooleanOptionFlags, BridgeBooleanOptionFlags)) -> (u32, u32)
-    ensures { result ≡ (under.0.0, under.1.0) }
+/// The numbers of both sets.
+fn pair_of(sets: BridgeBooleanOptions) -> (u32, u32)
+    ensures { result ≡ (sets.value.0, sets.mask.0) }
 {
-    let (flags, mask) = under;
-    (flags.bits(), mask.bits())
+    (sets.value.bits(), sets.mask.bits())
 }
 
 /// The row of `IFLA_BR_ROOT_ID`. Wherever it is named, `T` is `()`.
@@ -445,7 +445,6 @@ impl<'a> Parseable<NlaBuffer<'a>> for InfoBridge {
 
 impl ExactEq for InfoBridge {
     ghost use Rattle.std.specs.Cmp.{booleans_Decides};
-    ghost use Rattle.std.proofs.Common.{rules};
     ghost use Rattle.std.specs.Cmp.Lexicographic.{pointwise_decides};
     ghost use Rattle.std.proofs.lemmas.Bool.Decides.{Decides-eqb};
     ghost use Rattle.nla_frame.specs.Derived.{derived_decides, no_field, one_field};
@@ -468,6 +467,9 @@ impl ExactEq for InfoBridge {
     ghost use Rattle.linkinfo_numbers.specs.contracts.bond.OnOffExactEq.TheImpl.Laws.{
       exact-law as switch_exact,
     };
+    ghost use Rattle.linkinfo_numbers.specs.contracts.bridge.BridgeBooleanOptionsExactEq.TheImpl.Laws.{
+      exact-law as options_exact,
+    };
     ghost use Rattle.linkinfo_typed.specs.contracts.bridge_querier_state.BridgeQuerierStateExactEq.TheImpl.Laws.{
       exact-law as bridge_querier_state_exact,
     };
@@ -487,7 +489,7 @@ impl ExactEq for InfoBridge {
         let mac = one_field mac_exact in
         let router = one_field router_exact in
         let switch = one_field switch_exact in
-        let sets = one_field (λ a b. Prim.search rules) in
+        let options = one_field options_exact in
         let bridge_querier_state = one_field (pointwise_decides bridge_querier_state_exact) in
         let mode = one_field mode_exact in
         let kept = one_field kept_exact in
@@ -536,7 +538,7 @@ impl ExactEq for InfoBridge {
         & number
         & number
         & switch
-        & sets
+        & options
         & bridge_querier_state
         & number
         & number

@@ -28,17 +28,19 @@ use std::net::{Ipv4Addr, Ipv6Addr};
 /// (include/uapi/linux/if_bridge.h).
 #[derive(Debug, PartialEq, Eq, Drop)]
 pub enum BridgeQuerierState {
-    /// Address of the querier of IGMP (`BRIDGE_QUERIER_IP_ADDRESS`), network byte order.
+    /// Address of the querier of IGMP; read only (`BRIDGE_QUERIER_IP_ADDRESS`), network byte order.
     Ipv4Address(Ipv4Addr),
-    /// Index of the port that it is behind (`BRIDGE_QUERIER_IP_PORT`), little-endian.
+    /// Index of the port that it is behind; read only (`BRIDGE_QUERIER_IP_PORT`), little-endian.
     Ipv4Port(u32),
-    /// Time until it is taken as gone, in 1/100 s (`BRIDGE_QUERIER_IP_OTHER_TIMER`), little-endian.
+    /// Time until it is taken as gone, in 1/100 s; read only (`BRIDGE_QUERIER_IP_OTHER_TIMER`),
+    /// little-endian.
     Ipv4OtherTimer(u64),
-    /// Address of the querier of MLD (`BRIDGE_QUERIER_IPV6_ADDRESS`), network byte order.
+    /// Address of the querier of MLD; read only (`BRIDGE_QUERIER_IPV6_ADDRESS`), network byte
+    /// order.
     Ipv6Address(Ipv6Addr),
-    /// Index of the port that it is behind (`BRIDGE_QUERIER_IPV6_PORT`), little-endian.
+    /// Index of the port that it is behind; read only (`BRIDGE_QUERIER_IPV6_PORT`), little-endian.
     Ipv6Port(u32),
-    /// Time until it is taken as gone, in 1/100 s (`BRIDGE_QUERIER_IPV6_OTHER_TIMER`),
+    /// Time until it is taken as gone, in 1/100 s; read only (`BRIDGE_QUERIER_IPV6_OTHER_TIMER`),
     /// little-endian.
     Ipv6OtherTimer(u64),
     /// An opaque attribute, of a type that has no variant here, kept verbatim.

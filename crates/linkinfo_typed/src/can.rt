@@ -2,7 +2,7 @@
 //! CAN devices.
 
 ghost use Rattle.linkinfo_typed.specs.Can.{
-  flags_under_mask,
+  both_sets,
   can_attribute,
   can_elsewhere,
   can_flat_elsewhere,
@@ -53,7 +53,7 @@ use crate::can_ctrl_mode_ext::CanCtrlModeExt;
 use crate::can_pwm::CanPwm;
 use crate::can_tdc::CanTdc;
 use bitflags::Flags;
-use linkinfo_numbers::{CanCtrlModeFlags, CanState};
+use linkinfo_numbers::{CanClock, CanCtrlMode, CanCtrlModeFlags, CanState};
 use linkinfo_payloads::{CanBerrCounter, CanBitTiming, CanBitTimingConst, Numbers};
 use linkinfo_table::{
     Both, CustomRows, Decoded, Encodable, LinkFamily, Lookup, PayloadRow, RowFamily, Slot,
@@ -70,50 +70,50 @@ use std::marker::PhantomData;
 pub enum InfoCan {
     /// Timing of bits (`IFLA_CAN_BITTIMING`), 32 bytes.
     BitTiming(CanBitTiming),
-    /// Limits of the timing of bits (`IFLA_CAN_BITTIMING_CONST`), 48 bytes.
+    /// Limits of the timing of bits; read only (`IFLA_CAN_BITTIMING_CONST`), 48 bytes.
     BitTimingConst(CanBitTimingConst),
-    /// Frequency of the clock, in hertz (`IFLA_CAN_CLOCK`), little-endian.
-    Clock(u32),
-    /// State (`IFLA_CAN_STATE`), little-endian.
+    /// Frequency of the clock, in hertz; read only (`IFLA_CAN_CLOCK`), little-endian.
+    Clock(CanClock),
+    /// State; read only (`IFLA_CAN_STATE`), little-endian.
     State(CanState),
     /// The mask of the modes to change, and the modes (`IFLA_CAN_CTRLMODE`, `struct can_ctrlmode`),
     /// each little-endian.
-    CtrlMode((CanCtrlModeFlags, CanCtrlModeFlags)),
+    CtrlMode(CanCtrlMode),
     /// Delay until a restart after the bus was off, in milliseconds (`IFLA_CAN_RESTART_MS`),
     /// little-endian.
     RestartMs(u32),
     /// A restart, whatever the number (`IFLA_CAN_RESTART`), little-endian.
     Restart(u32),
-    /// Error counters (`IFLA_CAN_BERR_COUNTER`), four bytes.
+    /// Error counters; read only (`IFLA_CAN_BERR_COUNTER`), four bytes.
     BerrCounter(CanBerrCounter),
     /// Timing of the bits of data of CAN FD (`IFLA_CAN_DATA_BITTIMING`), 32 bytes.
     DataBitTiming(CanBitTiming),
-    /// Limits of the timing of the bits of data of CAN FD (`IFLA_CAN_DATA_BITTIMING_CONST`), 48
-    /// bytes.
+    /// Limits of the timing of the bits of data of CAN FD; read only
+    /// (`IFLA_CAN_DATA_BITTIMING_CONST`), 48 bytes.
     DataBitTimingConst(CanBitTimingConst),
     /// Termination, in ohms (`IFLA_CAN_TERMINATION`), little-endian.
     Termination(u16),
-    /// Terminations that the device has, in ohms (`IFLA_CAN_TERMINATION_CONST`), an array of
-    /// numbers, each little-endian.
+    /// Terminations that the device has, in ohms; read only (`IFLA_CAN_TERMINATION_CONST`), an
+    /// array of numbers, each little-endian.
     TerminationConst(Numbers<u16>),
-    /// Bit rates that the device has, in bits per second (`IFLA_CAN_BITRATE_CONST`), an array of
-    /// numbers, each little-endian.
+    /// Bit rates that the device has, in bits per second; read only (`IFLA_CAN_BITRATE_CONST`), an
+    /// array of numbers, each little-endian.
     BitRateConst(Numbers<u32>),
-    /// Bit rates of data of CAN FD that the device has, in bits per second
+    /// Bit rates of data of CAN FD that the device has, in bits per second; read only
     /// (`IFLA_CAN_DATA_BITRATE_CONST`), an array of numbers, each little-endian.
     DataBitRateConst(Numbers<u32>),
-    /// Highest bit rate, in bits per second (`IFLA_CAN_BITRATE_MAX`), little-endian.
+    /// Highest bit rate, in bits per second; read only (`IFLA_CAN_BITRATE_MAX`), little-endian.
     BitRateMax(u32),
     /// Transmitter delay compensation of CAN FD (`IFLA_CAN_TDC`), a nested list.
     Tdc(Nlas<CanTdc>),
-    /// Modes that the device has (`IFLA_CAN_CTRLMODE_EXT`), a nested list.
+    /// Modes that the device has; read only (`IFLA_CAN_CTRLMODE_EXT`), a nested list.
     CtrlModeExt(Nlas<CanCtrlModeExt>),
     /// Timing of the bits of data of CAN XL (`IFLA_CAN_XL_DATA_BITTIMING`), 32 bytes.
     XlDataBitTiming(CanBitTiming),
-    /// Limits of the timing of the bits of data of CAN XL (`IFLA_CAN_XL_DATA_BITTIMING_CONST`), 48
-    /// bytes.
+    /// Limits of the timing of the bits of data of CAN XL; read only
+    /// (`IFLA_CAN_XL_DATA_BITTIMING_CONST`), 48 bytes.
     XlDataBitTimingConst(CanBitTimingConst),
-    /// Bit rates of data of CAN XL that the device has, in bits per second
+    /// Bit rates of data of CAN XL that the device has, in bits per second; read only
     /// (`IFLA_CAN_XL_DATA_BITRATE_CONST`), an array of numbers, each little-endian.
     XlDataBitRateConst(Numbers<u32>),
     /// Transmitter delay compensation of CAN XL (`IFLA_CAN_XL_TDC`), a nested list.
@@ -129,7 +129,7 @@ macro_rules! rows {
         $body! { InfoCan $given;
             (1, custom, BitTiming),
             (2, custom, BitTimingConst),
-            (3, le32, Clock),
+            (3, le32, Clock as CanClock),
             (4, le32, State as CanState),
             (5, flag_pair, CtrlMode by flags_of, pair_of),
             (6, le32, RestartMs),
@@ -194,23 +194,22 @@ impl RowFamily for InfoCan {
     }
 }
 
-/// Makes flags and their mask from two numbers.
-fn flags_of(pair: (u32, u32)) -> (CanCtrlModeFlags, CanCtrlModeFlags)
-    ensures { result ≡ flags_under_mask pair }
+/// Makes both sets of their numbers.
+fn flags_of(pair: (u32, u32)) -> CanCtrlMode
+    ensures { result ≡ both_sets pair }
 {
-    let (flags, mask) = pair;
-    (
-        CanCtrlModeFlags::from_bits_retain(flags),
-        CanCtrlModeFlags::from_bits_retain(mask),
-    )
+    let (mask, flags) = pair;
+    CanCtrlMode {
+        mask: CanCtrlModeFlags::from_bits_retain(mask),
+        flags: CanCtrlModeFlags::from_bits_retain(flags),
+    }
 }
 
-/// The two numbers of flags and their mask.
-fn pair_of(under: (CanCtrlModeFlags, CanCtrlModeFlags)) -> (u32, u32)
-    ensures { result ≡ (under.0.0, under.1.0) }
+/// The numbers of both sets.
+fn pair_of(sets: CanCtrlMode) -> (u32, u32)
+    ensures { result ≡ (sets.mask.0, sets.flags.0) }
 {
-    let (flags, mask) = under;
-    (flags.bits(), mask.bits())
+    (sets.mask.bits(), sets.flags.bits())
 }
 
 /// The row of `IFLA_CAN_BITTIMING`. Wherever it is named, `T` is `()`.
@@ -855,7 +854,6 @@ impl<'a> Parseable<NlaBuffer<'a>> for InfoCan {
 }
 
 impl ExactEq for InfoCan {
-    ghost use Rattle.std.proofs.Common.{rules};
     ghost use Rattle.std.specs.Cmp.Lexicographic.{pointwise_decides};
     ghost use Rattle.std.proofs.lemmas.Bool.Decides.{Decides-eqb};
     ghost use Rattle.nla_frame.specs.Derived.{derived_decides, one_field};
@@ -866,8 +864,14 @@ impl ExactEq for InfoCan {
     ghost use Rattle.linkinfo_payloads.specs.contracts.records.CanBitTimingConstExactEq.TheImpl.Laws.{
       exact-law as bit_timing_const_exact,
     };
+    ghost use Rattle.linkinfo_numbers.specs.contracts.can.CanClockExactEq.TheImpl.Laws.{
+      exact-law as clock_exact,
+    };
     ghost use Rattle.linkinfo_numbers.specs.contracts.can.CanStateExactEq.TheImpl.Laws.{
       exact-law as state_exact,
+    };
+    ghost use Rattle.linkinfo_numbers.specs.contracts.can.CanCtrlModeExactEq.TheImpl.Laws.{
+      exact-law as mode_exact,
     };
     ghost use Rattle.linkinfo_payloads.specs.contracts.records.CanBerrCounterExactEq.TheImpl.Laws.{
       exact-law as error_counter_exact,
@@ -888,9 +892,10 @@ impl ExactEq for InfoCan {
 
     ghost exact = { let bit_timing = one_field bit_timing_exact in
         let bit_timing_const = one_field bit_timing_const_exact in
-        let number = one_field Decides-eqb in
+        let clock = one_field clock_exact in
         let state = one_field state_exact in
-        let sets = one_field (λ a b. Prim.search rules) in
+        let mode = one_field mode_exact in
+        let number = one_field Decides-eqb in
         let error_counter = one_field error_counter_exact in
         let numbers = one_field (pointwise_decides Decides-eqb) in
         let can_tdc = one_field (pointwise_decides can_tdc_exact) in
@@ -900,9 +905,9 @@ impl ExactEq for InfoCan {
         derived_decides enum _
         (bit_timing
         & bit_timing_const
-        & number
+        & clock
         & state
-        & sets
+        & mode
         & number
         & number
         & error_counter

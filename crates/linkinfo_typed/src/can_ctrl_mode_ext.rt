@@ -26,7 +26,7 @@ use std::alloc::{AllocError, Global};
 /// An attribute inside `IFLA_CAN_CTRLMODE_EXT` of a `can` link (include/uapi/linux/can/netlink.h).
 #[derive(Debug, PartialEq, Eq, Drop)]
 pub enum CanCtrlModeExt {
-    /// Modes that can be set (`IFLA_CAN_CTRLMODE_SUPPORTED`), little-endian.
+    /// Modes that can be set; read only (`IFLA_CAN_CTRLMODE_SUPPORTED`), little-endian.
     Supported(CanCtrlModeFlags),
     /// An opaque attribute, of a type that has no variant here, kept verbatim.
     Other(DefaultNla),

@@ -20,19 +20,21 @@ use std::alloc::{AllocError, Global};
 /// An attribute inside `IFLA_CAN_XL_PWM` of a `can` link (include/uapi/linux/can/netlink.h).
 #[derive(Debug, PartialEq, Eq, Drop)]
 pub enum CanPwm {
-    /// Least length of the short phase, in clock periods (`IFLA_CAN_PWM_PWMS_MIN`), little-endian.
+    /// Least length of the short phase, in clock periods; read only (`IFLA_CAN_PWM_PWMS_MIN`),
+    /// little-endian.
     PwmsMin(u32),
-    /// Greatest length of the short phase, in clock periods (`IFLA_CAN_PWM_PWMS_MAX`),
+    /// Greatest length of the short phase, in clock periods; read only (`IFLA_CAN_PWM_PWMS_MAX`),
     /// little-endian.
     PwmsMax(u32),
-    /// Least length of the long phase, in clock periods (`IFLA_CAN_PWM_PWML_MIN`), little-endian.
+    /// Least length of the long phase, in clock periods; read only (`IFLA_CAN_PWM_PWML_MIN`),
+    /// little-endian.
     PwmlMin(u32),
-    /// Greatest length of the long phase, in clock periods (`IFLA_CAN_PWM_PWML_MAX`),
+    /// Greatest length of the long phase, in clock periods; read only (`IFLA_CAN_PWM_PWML_MAX`),
     /// little-endian.
     PwmlMax(u32),
-    /// Least offset, in clock periods (`IFLA_CAN_PWM_PWMO_MIN`), little-endian.
+    /// Least offset, in clock periods; read only (`IFLA_CAN_PWM_PWMO_MIN`), little-endian.
     PwmoMin(u32),
-    /// Greatest offset, in clock periods (`IFLA_CAN_PWM_PWMO_MAX`), little-endian.
+    /// Greatest offset, in clock periods; read only (`IFLA_CAN_PWM_PWMO_MAX`), little-endian.
     PwmoMax(u32),
     /// Length of the short phase, in clock periods (`IFLA_CAN_PWM_PWMS`), little-endian.
     Pwms(u32),

@@ -15,6 +15,8 @@ ghost use Rattle.linkinfo_typed.specs.Conditions.{
   can_tdc_conditions,
   dsa_conditions,
   hsr_conditions,
+  ovpn_conditions,
+  ppp_conditions,
   tun_conditions,
   vlan_conditions,
   vlan_qos_mapping_conditions,
@@ -58,6 +60,8 @@ use crate::can_pwm::CanPwm;
 use crate::can_tdc::CanTdc;
 use crate::dsa::InfoDsa;
 use crate::hsr::InfoHsr;
+use crate::ovpn::InfoOvpn;
+use crate::ppp::InfoPpp;
 use crate::qos::VlanQosMapping;
 use crate::tun::InfoTun;
 use crate::vlan::InfoVlan;
@@ -82,6 +86,8 @@ pub fn named()
     ensures can_tdc { ⟦<CanTdc as LinkFamily>⟧.FAMILY ≡ family.CanTdc }
     ensures dsa { ⟦<InfoDsa as LinkFamily>⟧.FAMILY ≡ family.Dsa }
     ensures hsr { ⟦<InfoHsr as LinkFamily>⟧.FAMILY ≡ family.Hsr }
+    ensures ovpn { ⟦<InfoOvpn as LinkFamily>⟧.FAMILY ≡ family.Ovpn }
+    ensures ppp { ⟦<InfoPpp as LinkFamily>⟧.FAMILY ≡ family.Ppp }
     ensures vlan_qos_mapping { ⟦<VlanQosMapping as LinkFamily>⟧.FAMILY ≡ family.VlanQosMapping }
     ensures tun { ⟦<InfoTun as LinkFamily>⟧.FAMILY ≡ family.Tun }
     ensures vlan { ⟦<InfoVlan as LinkFamily>⟧.FAMILY ≡ family.Vlan }
@@ -119,6 +125,10 @@ pub fn tabled()
         ⟦<InfoDsa as LinkFamily>⟧.lookup tt n ≡ lookup_in (typed_shape_of family.Dsa n) }
     ensures hsr { (n : ℕ) →
         ⟦<InfoHsr as LinkFamily>⟧.lookup tt n ≡ lookup_in (typed_shape_of family.Hsr n) }
+    ensures ovpn { (n : ℕ) →
+        ⟦<InfoOvpn as LinkFamily>⟧.lookup tt n ≡ lookup_in (typed_shape_of family.Ovpn n) }
+    ensures ppp { (n : ℕ) →
+        ⟦<InfoPpp as LinkFamily>⟧.lookup tt n ≡ lookup_in (typed_shape_of family.Ppp n) }
     ensures vlan_qos_mapping { (n : ℕ) →
         ⟦<VlanQosMapping as LinkFamily>⟧.lookup tt n
         ≡ lookup_in (typed_shape_of family.VlanQosMapping n) }
@@ -152,6 +162,8 @@ pub fn well_formed()
     ensures can_tdc { (x : CanTdc) → ⟦<CanTdc as LinkFamily>⟧.well tt x ↔ can_tdc_conditions x }
     ensures dsa { (x : InfoDsa) → ⟦<InfoDsa as LinkFamily>⟧.well tt x ↔ dsa_conditions x }
     ensures hsr { (x : InfoHsr) → ⟦<InfoHsr as LinkFamily>⟧.well tt x ↔ hsr_conditions x }
+    ensures ovpn { (x : InfoOvpn) → ⟦<InfoOvpn as LinkFamily>⟧.well tt x ↔ ovpn_conditions x }
+    ensures ppp { (x : InfoPpp) → ⟦<InfoPpp as LinkFamily>⟧.well tt x ↔ ppp_conditions x }
     ensures vlan_qos_mapping { (x : VlanQosMapping) →
         ⟦<VlanQosMapping as LinkFamily>⟧.well tt x ↔ vlan_qos_mapping_conditions x }
     ensures tun { (x : InfoTun) → ⟦<InfoTun as LinkFamily>⟧.well tt x ↔ tun_conditions x }
@@ -176,6 +188,8 @@ pub fn families_inside()
     ensures can_tdc { ⟦<CanTdc as LinkFamily>⟧.inside ≡ [] }
     ensures dsa { ⟦<InfoDsa as LinkFamily>⟧.inside ≡ [] }
     ensures hsr { ⟦<InfoHsr as LinkFamily>⟧.inside ≡ [] }
+    ensures ovpn { ⟦<InfoOvpn as LinkFamily>⟧.inside ≡ [] }
+    ensures ppp { ⟦<InfoPpp as LinkFamily>⟧.inside ≡ [] }
     ensures vlan_qos_mapping { ⟦<VlanQosMapping as LinkFamily>⟧.inside ≡ [] }
     ensures tun { ⟦<InfoTun as LinkFamily>⟧.inside ≡ [] }
     ensures vlan { ⟦<InfoVlan as LinkFamily>⟧.inside
@@ -199,6 +213,8 @@ pub fn sets()
     ensures can_tdc { ⟦<CanTdc as LinkFamily>⟧.IS_SET ≡ false }
     ensures dsa { ⟦<InfoDsa as LinkFamily>⟧.IS_SET ≡ false }
     ensures hsr { ⟦<InfoHsr as LinkFamily>⟧.IS_SET ≡ false }
+    ensures ovpn { ⟦<InfoOvpn as LinkFamily>⟧.IS_SET ≡ false }
+    ensures ppp { ⟦<InfoPpp as LinkFamily>⟧.IS_SET ≡ false }
     ensures vlan_qos_mapping { ⟦<VlanQosMapping as LinkFamily>⟧.IS_SET ≡ true }
     ensures tun { ⟦<InfoTun as LinkFamily>⟧.IS_SET ≡ false }
     ensures vlan { ⟦<InfoVlan as LinkFamily>⟧.IS_SET ≡ false }

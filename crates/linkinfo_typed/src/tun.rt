@@ -21,24 +21,26 @@ use std::alloc::{AllocError, Global};
 /// An attribute in the data of a `tun` link, a tun or tap device (include/uapi/linux/if_link.h).
 #[derive(Debug, PartialEq, Eq, Drop)]
 pub enum InfoTun {
-    /// Number of the user who owns the device (`IFLA_TUN_OWNER`), little-endian.
+    /// Number of the user who owns the device; read only (`IFLA_TUN_OWNER`), little-endian.
     Owner(u32),
-    /// Number of the group that owns the device (`IFLA_TUN_GROUP`), little-endian.
+    /// Number of the group that owns the device; read only (`IFLA_TUN_GROUP`), little-endian.
     Group(u32),
-    /// Whether it carries IP packets or Ethernet frames (`IFLA_TUN_TYPE`), one byte.
+    /// Whether it carries IP packets or Ethernet frames; read only (`IFLA_TUN_TYPE`), one byte.
     Type(TunType),
-    /// Whether each packet has a header before it (`IFLA_TUN_PI`, `struct tun_pi`), one byte.
+    /// Whether each packet has a header before it; read only (`IFLA_TUN_PI`, `struct tun_pi`), one
+    /// byte.
     Pi(bool),
-    /// Whether each packet has a header of virtio before it (`IFLA_TUN_VNET_HDR`, `struct
-    /// virtio_net_hdr`), one byte.
+    /// Whether each packet has a header of virtio before it; read only (`IFLA_TUN_VNET_HDR`,
+    /// `struct virtio_net_hdr`), one byte.
     VnetHdr(bool),
-    /// Whether the device stays when no program has it open (`IFLA_TUN_PERSIST`), one byte.
+    /// Whether the device stays when no program has it open; read only (`IFLA_TUN_PERSIST`), one
+    /// byte.
     Persist(bool),
-    /// Whether the device can have several queues (`IFLA_TUN_MULTI_QUEUE`), one byte.
+    /// Whether the device can have several queues; read only (`IFLA_TUN_MULTI_QUEUE`), one byte.
     MultiQueue(bool),
-    /// How many queues are attached (`IFLA_TUN_NUM_QUEUES`), little-endian.
+    /// How many queues are attached; read only (`IFLA_TUN_NUM_QUEUES`), little-endian.
     NumQueues(u32),
-    /// How many queues are detached (`IFLA_TUN_NUM_DISABLED_QUEUES`), little-endian.
+    /// How many queues are detached; read only (`IFLA_TUN_NUM_DISABLED_QUEUES`), little-endian.
     NumDisabledQueues(u32),
     /// An opaque attribute, of a type that has no variant here, kept verbatim.
     Other(DefaultNla),

@@ -2,7 +2,7 @@
 //! VLAN interfaces.
 
 ghost use Rattle.linkinfo_typed.specs.Vlan.{
-  flags_under_mask,
+  both_sets,
   vlan_attribute,
   vlan_elsewhere,
   vlan_flat,
@@ -109,23 +109,23 @@ impl RowFamily for InfoVlan {
     }
 }
 
-/// Makes flags and their mask from two numbers.
+/// Makes both sets of their numbers.
 fn flags_of(pair: (u32, u32)) -> (VlanFlags, VlanFlags)
-    ensures { result ≡ flags_under_mask pair }
+    ensures { result ≡ both_sets pair }
 {
-    let (flags, mask) = pair;
+    let (first, second) = pair;
     (
-        VlanFlags::from_bits_retain(flags),
-        VlanFlags::from_bits_retain(mask),
+        VlanFlags::from_bits_retain(first),
+        VlanFlags::from_bits_retain(second),
     )
 }
 
-/// The two numbers of flags and their mask.
-fn pair_of(under: (VlanFlags, VlanFlags)) -> (u32, u32)
-    ensures { result ≡ (under.0.0, under.1.0) }
+/// The numbers of both sets.
+fn pair_of(sets: (VlanFlags, VlanFlags)) -> (u32, u32)
+    ensures { result ≡ (sets.0.0, sets.1.0) }
 {
-    let (flags, mask) = under;
-    (flags.bits(), mask.bits())
+    let (first, second) = sets;
+    (first.bits(), second.bits())
 }
 
 /// The row of `IFLA_VLAN_EGRESS_QOS`. Wherever it is named, `T` is `()`.

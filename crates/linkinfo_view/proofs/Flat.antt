@@ -38,13 +38,18 @@ use Rattle.std.proofs.Common.{
   lit≤,
   nat_cmp,
   codes,
+  drop,
+  length,
+  take,
 }
 use Rattle.std.specs.Cmp.Lexicographic.{slice_cmp}
+use Rattle.std.specs.Int.{from_le_bytes, w16}
 use Rattle.std.specs.List.{AllByRecursion}
 use Rattle.std.specs.Ordering.{match_ordering}
 use Rattle.nla_frame.specs.Attribute.{Attribute}
 use Rattle.nla_frame.specs.declared.error.Cause.{Cause}
 use Rattle.linkinfo_shapes.specs.Data as value
+use Rattle.linkinfo_shapes.specs.declared.shape.Shape.{Shape}
 use Rattle.linkinfo_shapes.specs.declared.shape.Shape.TheVariants as shape
 use Rattle.serde_json.specs.Data.{
   Data,
@@ -71,8 +76,11 @@ use Rattle.linkinfo_view.specs.Lines.{Line}
 use Rattle.linkinfo_view.specs.Text.{hex_data}
 use Rattle.linkinfo_view.specs.Values.{
   Named,
+  array_data,
   bit_timing,
+  bit_timing_const,
   bits_from,
+  error_counters_data,
   first_of,
   flags_data,
   format_data,
@@ -82,10 +90,12 @@ use Rattle.linkinfo_view.specs.Values.{
   names_from,
   number_data,
   options_from,
+  parts_data,
   second_of,
   plain_data,
   plain_or_hex,
   switch_data,
+  two,
   with_bit,
   with_name,
   with_option,
@@ -113,7 +123,7 @@ use Rattle.linkinfo_view.specs.View.{
   shown_in,
   with_label,
 }
-use Rattle.linkinfo_view.specs.Words.{FlagRow, flag_at}
+use Rattle.linkinfo_view.specs.Words.{FlagRow, flag_at, word}
 use Rattle.linkinfo_view.specs.declared.format.Elements.{Elements}
 use Rattle.linkinfo_view.specs.declared.format.Elements.TheVariants as elements
 use Rattle.linkinfo_view.specs.declared.format.Flags.{Flags}
@@ -251,23 +261,57 @@ switch_flat n =
 bit_timing_flat : (payload : List ℕ) → IsFlat 1 (object (bit_timing payload))
 bit_timing_flat payload = record { within = lit≤ tt; whole = refl }
 
+bit_timing_const_flat : (payload : List ℕ) → IsFlat 2 (object (bit_timing_const payload))
+bit_timing_const_flat payload = record { within = lit≤ tt; whole = refl }
+
+error_counters_flat : (payload : List ℕ) → IsFlat 1 (error_counters_data payload)
+error_counters_flat payload =
+    let sent = from_le_bytes w16 (take 2 payload) in
+    let received = from_le_bytes w16 (drop 2 payload) in
+    either_flat 1 (length payload == 4)
+    (two (codes "tx") (number_data sent) (codes "rx") (number_data received)) (hex_data payload)
+    (record { within = lit≤ tt; whole = refl }) (text_flat 1 _)
+
+parts_flat : (n width : ℕ) (sh : Shape) (payload : List ℕ) →
+    AllByRecursion (IsFlat 1) (parts_data n width sh payload)
+unfolding parts_data
+parts_flat zero width sh payload = tt
+parts_flat (suc n) width sh payload = (
+  plain_or_hex_flat (take width payload) (meant sh (take width payload)),
+  parts_flat n width sh (drop width payload),
+)
+
+array_data_flat : (width : ℕ) (sh : Shape) (payload : List ℕ) →
+    IsFlat 2 (array_data width sh payload)
+array_data_flat width sh payload =
+    either_flat 2 _ _ _ (array_flat 1 _ (parts_flat _ width sh payload)) (text_flat 2 _)
+
+up : (d : Data) → IsFlat 1 d → IsFlat 2 d
+up d h = deeper 1 2 d (lit≤ tt) h
+
 format_flat : (f : Format) (v : value.Value) (payload : List ℕ) →
-    IsFlat 1 (format_data f v payload)
-format_flat format.Present v payload = truth_flat 1 _
-format_flat format.Switch v payload = switch_flat (first_of v)
-format_flat format.Hex v payload = text_flat 1 _
-format_flat format.HexOrZero v payload = text_flat 1 _
-format_flat format.KeyHex v payload = text_flat 1 _
-format_flat format.FourDigits v payload = text_flat 1 _
-format_flat format.Octets v payload = text_flat 1 _
-format_flat format.HardwareAddress v payload = text_flat 1 _
-format_flat format.Quad v payload = plain_or_hex_flat payload (meant shape.V4 payload)
-format_flat (format.Word words) v payload = named_flat _ _
-format_flat format.Address v payload = either_flat 1 _ _ _ (text_flat 1 _) (plain_flat v)
-format_flat format.BridgeId v payload = either_flat 1 _ _ _ (text_flat 1 _) (text_flat 1 _)
+    IsFlat 2 (format_data f v payload)
+format_flat format.Present v payload = truth_flat 2 _
+format_flat format.Switch v payload = up _ (switch_flat (first_of v))
+format_flat format.Hex v payload = text_flat 2 _
+format_flat format.HexOrZero v payload = text_flat 2 _
+format_flat format.KeyHex v payload = text_flat 2 _
+format_flat format.FourDigits v payload = text_flat 2 _
+format_flat format.Octets v payload = text_flat 2 _
+format_flat format.HardwareAddress v payload = text_flat 2 _
+format_flat format.Quad v payload = up _ (plain_or_hex_flat payload (meant shape.V4 payload))
+format_flat (format.Word words) v payload = up _ (named_flat (word words (first_of v)) (first_of v))
+format_flat format.Address v payload =
+    either_flat 2 _ _ _ (text_flat 2 _) (up _ (plain_flat v))
+format_flat format.BridgeId v payload = either_flat 2 _ _ _ (text_flat 2 _) (text_flat 2 _)
 format_flat format.BitTiming v payload =
-    either_flat 1 _ _ _ (bit_timing_flat payload) (text_flat 1 _)
-format_flat _ v payload = plain_flat v
+    either_flat 2 _ _ _ (up _ (bit_timing_flat payload)) (text_flat 2 _)
+format_flat format.BitTimingConst v payload =
+    either_flat 2 _ _ _ (bit_timing_const_flat payload) (text_flat 2 _)
+format_flat format.ErrorCounters v payload = up _ (error_counters_flat payload)
+format_flat format.Le16s v payload = array_data_flat 2 shape.Le16 payload
+format_flat format.Le32s v payload = array_data_flat 4 shape.Le32 payload
+format_flat _ v payload = up _ (plain_flat v)
 
 flags_flat : (v : value.Value) → IsFlat 1 (flags_data v)
 flags_flat (value.pair a b) = text_flat 1 _
@@ -407,12 +451,16 @@ members_flat nested n le all name (format.Names flags) v payload =
     (deeper 1 n _ (omega arith) (names_data_flat flags _), (text_flat n _, tt))
 members_flat nested n le all name (format.SecondNames flags) v payload =
     (deeper 1 n _ (omega arith) (names_data_flat flags _), (text_flat n _, tt))
+members_flat nested n le all name (format.FlagNames flags) v payload =
+    (deeper 1 n _ (omega arith) (names_data_flat flags _), tt)
+members_flat nested n le all name format.LacpState v payload =
+    (number_flat n _, (deeper 1 n _ (omega arith) (names_data_flat _ _), tt))
 members_flat nested n le all name (format.List el) v payload =
     (deeper 2 n _ le (elements_data_flat el payload), tt)
 members_flat nested n le all name (format.Nested f) v payload =
     (all (tables.Family f) payload, tt)
 members_flat nested n le all name f v payload =
-    (deeper 1 n (format_data f v payload) (omega arith) (format_flat f v payload), tt)
+    (deeper 2 n (format_data f v payload) le (format_flat f v payload), tt)
 
 meant_flat : (nested : Table → List ℕ → Data) (n : ℕ) → 2 ≤ n →
     ((t : Table) (s : List ℕ) → IsFlat n (nested t s)) → (row : Line) (payload : List ℕ)

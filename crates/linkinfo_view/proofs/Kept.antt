@@ -303,6 +303,7 @@ format_thins nested name (format.Options flags) v payload =
     taken _ _ _ _ (of_flags flags _ (options_thin 16 0 flags _ _))
 format_thins nested name (format.Names flags) v payload = two_taken _ _ _ _
 format_thins nested name (format.SecondNames flags) v payload = two_taken _ _ _ _
+format_thins nested name format.LacpState v payload = two_taken _ _ _ _
 format_thins nested name f v payload = one_taken _ _ []
 
 rejected : (f : Format) (name : Text) (d : Data) → Thins ((name, d) ∷ []) (names_of name f)
@@ -314,6 +315,7 @@ rejected (format.Bits flags) name d = one_taken name d (flag_names flags)
 rejected (format.Options flags) name d = one_taken name d (flag_names flags)
 rejected (format.Names flags) name d = one_taken name d (codes "flags_mask" ∷ [])
 rejected (format.SecondNames flags) name d = one_taken name d (codes "ctrlmode_mask" ∷ [])
+rejected format.LacpState name d = one_taken name d ((name ++ codes "_str") ∷ [])
 rejected f name d = one_taken name d []
 
 meant_thins : (nested : Table → List ℕ → Data) (row : Line) (payload : List ℕ)

@@ -2,6 +2,7 @@ pub mod Flat
 pub mod Found
 pub mod Kept
 pub mod Meant
+pub mod Parts
 pub mod Places
 pub mod Printable
 pub mod PrintableData

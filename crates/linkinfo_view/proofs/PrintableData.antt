@@ -6,6 +6,7 @@ use Rattle.std.proofs.Common.{
   suc,
   ◌+◌,
   ◌/◌,
+  ◌%◌,
   ◌==◌,
   Bool,
   true,
@@ -39,6 +40,7 @@ use Rattle.std.proofs.Common.{
   ◌∙◌,
 }
 use Rattle.std.proofs.lemmas.Bool.{and_parts}
+use Rattle.std.proofs.lemmas.List.Elements.{All-append}
 use Rattle.std.specs.Cmp.Lexicographic.{slice_cmp}
 use Rattle.std.specs.List.{AllByRecursion, AllPass, flat_map, list_all}
 use Rattle.std.specs.Option.{IfSome}
@@ -51,7 +53,7 @@ use Rattle.nla_frame.specs.declared.error.Cause.{Cause}
 use Rattle.nla_frame.specs.declared.error.Cause.TheVariants as cause
 use Rattle.nla_frame.specs.declared.error.Family.{Family}
 use Rattle.nla_frame.specs.declared.error.Family.TheVariants as family
-use Rattle.nla_frame.proofs.ByteLists.{IsBytes-drop}
+use Rattle.nla_frame.proofs.ByteLists.{IsBytes-drop, IsBytes-take}
 use Rattle.nla_frame.proofs.Framing.{split_is, splits_attributes}
 use Rattle.nla_frame.proofs.Stepping.{nla_items_split}
 use Rattle.linkinfo_shapes.specs.Data as value
@@ -90,13 +92,18 @@ use Rattle.linkinfo_view.specs.Text.{
 }
 use Rattle.linkinfo_view.specs.Values.{
   Named,
+  array_data,
+  before_nul,
   bit_timing,
+  bit_timing_const,
   bits_from,
+  error_counters_data,
   first_of,
   flags_data,
   format_data,
   is_multicast,
   is_set,
+  limit_data,
   listed,
   listed_text,
   meant,
@@ -108,6 +115,7 @@ use Rattle.linkinfo_view.specs.Values.{
   options_from,
   or_zero,
   over_flags,
+  parts_data,
   plain_data,
   plain_or_hex,
   second_of,
@@ -421,6 +429,61 @@ bit_timing_printable payload =
       ),
     )
 
+limit_printable : (least greatest : ℕ) → IsPrintable (limit_data least greatest)
+limit_printable least greatest =
+    (known_passes (codes "max") refl, tt, (known_passes (codes "min") refl, tt, tt))
+
+bit_timing_const_printable : (payload : List ℕ) → MembersArePrintable (bit_timing_const payload)
+bit_timing_const_printable payload = (
+  known_passes (codes "brp") refl,
+  limit_printable (number_at payload 36) (number_at payload 40),
+  (
+    known_passes (codes "brp_inc") refl,
+    tt,
+    (
+      known_passes (codes "name") refl,
+      escaped_printable (before_nul (take 16 payload)),
+      (
+        known_passes (codes "sjw") refl,
+        limit_printable 1 (number_at payload 32),
+        (
+          known_passes (codes "tseg1") refl,
+          limit_printable (number_at payload 16) (number_at payload 20),
+          (
+            known_passes (codes "tseg2") refl,
+            limit_printable (number_at payload 24) (number_at payload 28),
+            tt,
+          ),
+        ),
+      ),
+    ),
+  ),
+)
+
+error_counters_printable : (payload : List ℕ) → IsBytes payload →
+    IsPrintable (error_counters_data payload)
+error_counters_printable payload h =
+    either_data (length payload == 4) _ (hex_data payload)
+    (known_passes (codes "rx") refl, tt, (known_passes (codes "tx") refl, tt, tt))
+    (hex_data_printable payload h)
+
+parts_printable : (n width : ℕ) (sh : Shape) (payload : List ℕ) → IsBytes payload →
+    AllPrintable (parts_data n width sh payload)
+unfolding parts_data
+parts_printable zero width sh payload h = tt
+parts_printable (suc n) width sh payload h = (
+  plain_as_printable sh (take width payload) (IsBytes-take width payload h),
+  parts_printable n width sh (drop width payload) (IsBytes-drop width payload h),
+)
+
+array_printable : (width : ℕ) (sh : Shape) (payload : List ℕ) → IsBytes payload →
+    IsPrintable (array_data width sh payload)
+array_printable width sh payload h =
+    let parts = parts_data (length payload / width) width sh payload in
+    either_data (length payload % width == 0) (array (items_of parts)) (hex_data payload)
+    (items_printable parts (parts_printable (length payload / width) width sh payload h))
+    (hex_data_printable payload h)
+
 format_printable : (f : Format) (v : value.Value) (payload : List ℕ) → IsBytes payload → Held v →
     IsPrintable (format_data f v payload)
 format_printable format.Present v payload h g = tt
@@ -451,6 +514,12 @@ format_printable format.BridgeId v payload h g =
 format_printable format.BitTiming v payload h g =
     either_data (length payload == 32) (object (bit_timing payload)) _
     (bit_timing_printable payload) (hex_data_printable payload h)
+format_printable format.BitTimingConst v payload h g =
+    either_data (length payload == 48) (object (bit_timing_const payload)) _
+    (bit_timing_const_printable payload) (hex_data_printable payload h)
+format_printable format.ErrorCounters v payload h g = error_counters_printable payload h
+format_printable format.Le16s v payload h g = array_printable 2 shape.Le16 payload h
+format_printable format.Le32s v payload h g = array_printable 4 shape.Le32 payload h
 format_printable _ v payload h g = plain_printable v g
 
 flags_printable : (v : value.Value) → IsPrintable (flags_data v)
@@ -648,6 +717,11 @@ either_name : (b : Bool) (x y : List ℕ) → Passes x → Passes y → Passes (
 either_name true x y h g = h
 either_name false x y h g = g
 
+str_passes : (name : List ℕ) → Passes name → Passes (name ++ codes "_str")
+str_passes name h =
+    All-append (λ (c : ℕ). is_printable c ≡ true) name (codes "_str") h
+    (known_passes (codes "_str") refl)
+
 abbrev NestedPrintable : (Table → List ℕ → Data) → Type 0
 NestedPrintable nested = (t : Table) (s : List ℕ) → IsBytes s → IsPrintable (nested t s)
 
@@ -700,6 +774,15 @@ members_printable nested all name (format.Names f) v payload p h g = (
 members_printable nested all name (format.SecondNames f) v payload p h g = (
   (p, names_data_printable f _),
   ((known_passes (codes "ctrlmode_mask") refl, hex_passes (first_of v)), tt),
+)
+members_printable nested all name (format.FlagNames f) v payload p h g =
+    ((p, names_data_printable f _), tt)
+members_printable nested all name format.LacpState v payload p h g = (
+  (p, tt),
+  (
+    (str_passes name p, names_data_printable flags.LacpState (first_of v % 256)),
+    tt,
+  ),
 )
 members_printable nested all name (format.List el) v payload p h g =
     ((p, elements_data_printable el payload h), tt)

@@ -69,6 +69,7 @@ names_of name (format.Bits flags) = name ∷ flag_names flags
 names_of name (format.Options flags) = name ∷ flag_names flags
 names_of name (format.Names flags) = name ∷ codes "flags_mask" ∷ []
 names_of name (format.SecondNames flags) = name ∷ codes "ctrlmode_mask" ∷ []
+names_of name format.LacpState = name ∷ (name ++ codes "_str") ∷ []
 names_of name format = name ∷ []
 
 -- the names of all members of an object

@@ -46,6 +46,8 @@ use Rattle.linkinfo_view.specs.declared.entries.TheConstants.{
   MAC_SEC,
   MAC_VLAN,
   NETKIT,
+  OVPN,
+  PPP,
   RM_NET,
   SIT,
   TUN,
@@ -101,6 +103,8 @@ family_rows family.BridgeQuerierState = lines BRIDGE_QUERIER_STATE.now
 family_rows family.CanTdc = lines CAN_TDC.now
 family_rows family.CanCtrlModeExt = lines CAN_CTRL_MODE_EXT.now
 family_rows family.CanPwm = lines CAN_PWM.now
+family_rows family.Ovpn = lines OVPN.now
+family_rows family.Ppp = lines PPP.now
 -- End: written by tables/generate.
 family_rows _ = []
 
@@ -138,3 +142,12 @@ tunnel_table kind = if bytes_eq kind (codes "sit") then table.Sit
 abbrev pub table_of : Family → List ℕ → Table
 table_of family.IpTunnel kind = tunnel_table kind
 table_of f kind = table.Family f
+
+-- the table of the data of a link of a kind that the library keeps as bytes, if it has rows
+abbrev pub table_of_other : List ℕ → Option Table
+table_of_other kind =
+    -- Begin: written by tables/generate from tables/families (arms).
+    if bytes_eq kind (codes "ovpn") then Some (table.Family family.Ovpn) else
+    if bytes_eq kind (codes "ppp") then Some (table.Family family.Ppp) else
+    -- End: written by tables/generate.
+    None

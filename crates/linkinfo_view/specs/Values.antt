@@ -3,6 +3,8 @@ use Rattle.std.specs.Prelude.{
   ◌≡◌,
   ℕ,
   ◌-◌,
+  ◌/◌,
+  ◌%◌,
   ◌==◌,
   ◌&&◌,
   zero,
@@ -29,8 +31,8 @@ use Rattle.std.specs.Prelude.{
   Err,
   codes,
 }
-use Rattle.std.specs.Int.{w32, from_le_bytes}
-use Rattle.std.specs.List.{list_all, flat_map}
+use Rattle.std.specs.Int.{w16, w32, from_le_bytes}
+use Rattle.std.specs.List.{list_all, flat_map, before_first}
 use Rattle.std.specs.Net.Text.{ipv4_text, ipv6_text}
 use Rattle.nla_frame.specs.declared.error.Cause.{Cause}
 use Rattle.linkinfo_shapes.specs.Data.{
@@ -168,6 +170,49 @@ abbrev pub bit_timing_data : List ℕ → Data
 bit_timing_data payload = if length payload == 32 then json.object (bit_timing payload)
     else hex_data payload
 
+-- the bytes before the first NUL
+abbrev pub before_nul : List ℕ → List ℕ
+before_nul s = before_first (λ b. b == 0) s
+
+-- a limit: its least and its greatest number
+abbrev pub limit_data : ℕ → ℕ → Data
+limit_data least greatest =
+    two (codes "min") (number_data least) (codes "max") (number_data greatest)
+
+-- the name and the limits of a `struct can_bittiming_const`; the least jump width is 1
+abbrev pub bit_timing_const : List ℕ → Members
+bit_timing_const p =
+    put (codes "brp_inc") (number_data (number_at p 44))
+    (put (codes "brp") (limit_data (number_at p 36) (number_at p 40))
+    (put (codes "sjw") (limit_data 1 (number_at p 32))
+    (put (codes "tseg2") (limit_data (number_at p 24) (number_at p 28))
+    (put (codes "tseg1") (limit_data (number_at p 16) (number_at p 20))
+    (put (codes "name") (json.string (escaped_text (before_nul (take 16 p)))) json.no_members)))))
+
+abbrev pub bit_timing_const_data : List ℕ → Data
+bit_timing_const_data payload = if length payload == 48
+    then json.object (bit_timing_const payload)
+    else hex_data payload
+
+-- the two numbers of a `struct can_berr_counter`: errors in transmission, and in reception
+abbrev pub error_counters_data : List ℕ → Data
+error_counters_data payload = if length payload == 4
+    then two (codes "tx") (number_data (from_le_bytes w16 (take 2 payload)))
+    (codes "rx") (number_data (from_le_bytes w16 (drop 2 payload)))
+    else hex_data payload
+
+-- so many parts of a payload, each of a width, by a shape
+unfoldable pub parts_data : ℕ → ℕ → Shape → List ℕ → List Data
+parts_data zero width sh payload = []
+parts_data (suc n) width sh payload =
+    plain_as sh (take width payload) ∷ parts_data n width sh (drop width payload)
+
+-- all of them, of a payload whose length is a multiple of the width
+abbrev pub array_data : ℕ → Shape → List ℕ → Data
+array_data width sh payload = if length payload % width == 0
+    then json.array (items_of (parts_data (length payload / width) width sh payload))
+    else hex_data payload
+
 -- a number as a boolean if it is 0 or 1
 abbrev pub switch_data : ℕ → Data
 switch_data n = if n == 0 then json.boolean false
@@ -191,6 +236,10 @@ format_data format.Address value payload =
     if is_unspecified payload then json.string (codes "any") else plain_data value
 format_data format.BridgeId value payload = bridge_id_data payload
 format_data format.BitTiming value payload = bit_timing_data payload
+format_data format.BitTimingConst value payload = bit_timing_const_data payload
+format_data format.ErrorCounters value payload = error_counters_data payload
+format_data format.Le16s value payload = array_data 2 shape.Le16 payload
+format_data format.Le32s value payload = array_data 4 shape.Le32 payload
 format_data _ value payload = plain_data value
 
 -- the flags of a number in hex; of two numbers both, with a slash between them

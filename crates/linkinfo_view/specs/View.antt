@@ -2,6 +2,7 @@
 use Rattle.std.specs.Prelude.{
   ℕ,
   ◌/◌,
+  ◌%◌,
   ◌==◌,
   suc,
   Bool,
@@ -50,6 +51,7 @@ use Rattle.linkinfo_view.specs.Values.{
 use Rattle.linkinfo_view.specs.declared.format.Elements.{Elements}
 use Rattle.linkinfo_view.specs.declared.format.Elements.TheVariants as elements
 use Rattle.linkinfo_view.specs.declared.format.Flags.{Flags}
+use Rattle.linkinfo_view.specs.declared.format.Flags.TheVariants as flags
 use Rattle.linkinfo_view.specs.declared.format.Format.{Format}
 use Rattle.linkinfo_view.specs.declared.format.Format.TheVariants as format
 use Rattle.linkinfo_view.specs.declared.format.Table.{Table}
@@ -131,6 +133,12 @@ names_members flags name mask_name n mask = (name, names_data flags n)
     ∷ (mask_name, json.string (hex_text mask))
     ∷ []
 
+-- a number, and the names of the flags of its low eight bits
+abbrev pub state_members : List ℕ → ℕ → List Named
+state_members name n = (name, number_data n)
+    ∷ (name ++ codes "_str", names_data flags.LacpState (n % 256))
+    ∷ []
+
 -- the members of a value by its format, where `nested` shows a nested list by a table
 abbrev pub format_members : (Table → List ℕ → Data) → List ℕ → Format → Value → List ℕ →
     List Named
@@ -149,6 +157,9 @@ format_members nested name (format.Names flags) value payload =
     names_members flags name (codes "flags_mask") (first_of value) (second_of value)
 format_members nested name (format.SecondNames flags) value payload =
     names_members flags name (codes "ctrlmode_mask") (second_of value) (first_of value)
+format_members nested name (format.FlagNames flags) value payload =
+    (name, names_data flags (first_of value)) ∷ []
+format_members nested name format.LacpState value payload = state_members name (first_of value)
 format_members nested name (format.List el) value payload = (name, elements_data el payload) ∷ []
 format_members nested name (format.Nested family) value payload =
     (name, nested (tables.Family family) payload) ∷ []

@@ -163,6 +163,10 @@ word_rows words.OffOn =
     (0, codes "off") ∷
     (1, codes "on") ∷
     []
+word_rows words.OvpnMode =
+    (0, codes "p2p") ∷
+    (1, codes "mp") ∷
+    []
 word_rows words.PrimaryReselect =
     (0, codes "always") ∷
     (1, codes "better") ∷
@@ -295,6 +299,16 @@ flag_of flags.IpVlan =
     (0, flag_row 0x1 0x1 (codes "private")) ∷
     (1, flag_row 0x2 0x2 (codes "vepa")) ∷
     (2, flag_row 0x3 0x0 (codes "bridge")) ∷
+    []
+flag_of flags.LacpState =
+    (0, flag_row 0x1 0x1 (codes "active")) ∷
+    (1, flag_row 0x2 0x2 (codes "short_timeout")) ∷
+    (2, flag_row 0x4 0x4 (codes "aggregating")) ∷
+    (3, flag_row 0x8 0x8 (codes "in_sync")) ∷
+    (4, flag_row 0x10 0x10 (codes "collecting")) ∷
+    (5, flag_row 0x20 0x20 (codes "distributing")) ∷
+    (6, flag_row 0x40 0x40 (codes "defaulted")) ∷
+    (7, flag_row 0x80 0x80 (codes "expired")) ∷
     []
 flag_of flags.MacVlan =
     (0, flag_row 0x1 0x1 (codes "nopromisc")) ∷

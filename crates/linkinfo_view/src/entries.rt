@@ -344,8 +344,8 @@ pub(crate) const BOND_PORT: &[Entry] = rows! {
     (4, "perm_hwaddr", Raw, HardwareAddress),
     (5, "queue_id", Le16, Plain),
     (6, "ad_aggregator_id", Le16, Plain),
-    (7, "ad_actor_oper_port_state", U8, Plain),
-    (8, "ad_partner_oper_port_state", Le16, Plain),
+    (7, "ad_actor_oper_port_state", U8, LacpState),
+    (8, "ad_partner_oper_port_state", Le16, LacpState),
     (9, "prio", I32, Plain),
     (10, "actor_port_prio", Le16, Plain),
     (11, "churn_actor_state", U8, Word(Words::ChurnState)),
@@ -465,25 +465,25 @@ pub(crate) const VLAN: &[Entry] = rows! {
 /// `IFLA_CAN_*` (include/uapi/linux/can/netlink.h).
 pub(crate) const CAN: &[Entry] = rows! {
     (1, "bittiming", Raw, BitTiming),
-    (2, "bittiming_const", Raw, Plain),
+    (2, "bittiming_const", Raw, BitTimingConst),
     (3, "clock", Le32, Plain),
     (4, "state", Le32, Word(Words::CanState)),
     (5, "ctrlmode", FlagPair, SecondNames(Flags::Can)),
     (6, "restart_ms", Le32, Plain),
     (7, "restart", Le32, Plain),
-    (8, "berr_counter", Raw, Plain),
+    (8, "berr_counter", Raw, ErrorCounters),
     (9, "data_bittiming", Raw, BitTiming),
-    (10, "data_bittiming_const", Raw, Plain),
+    (10, "data_bittiming_const", Raw, BitTimingConst),
     (11, "termination", Le16, Plain),
-    (12, "termination_const", Raw, Plain),
-    (13, "bitrate_const", Raw, Plain),
-    (14, "data_bitrate_const", Raw, Plain),
+    (12, "termination_const", Raw, Le16s),
+    (13, "bitrate_const", Raw, Le32s),
+    (14, "data_bitrate_const", Raw, Le32s),
     (15, "bitrate_max", Le32, Plain),
     (16, "tdc", Raw, Nested(Family::CanTdc)),
     (17, "ctrlmode_ext", Raw, Nested(Family::CanCtrlModeExt)),
     (18, "xl_data_bittiming", Raw, BitTiming),
-    (19, "xl_data_bittiming_const", Raw, Plain),
-    (20, "xl_data_bitrate_const", Raw, Plain),
+    (19, "xl_data_bittiming_const", Raw, BitTimingConst),
+    (20, "xl_data_bitrate_const", Raw, Le32s),
     (21, "xl_tdc", Raw, Nested(Family::CanTdc)),
     (22, "xl_pwm", Raw, Nested(Family::CanPwm)),
 };
@@ -553,7 +553,7 @@ pub(crate) const CAN_TDC: &[Entry] = rows! {
 
 /// `IFLA_CAN_CTRLMODE_*` (include/uapi/linux/can/netlink.h), inside `IFLA_CAN_CTRLMODE_EXT`.
 pub(crate) const CAN_CTRL_MODE_EXT: &[Entry] = rows! {
-    (1, "supported", Le32, Hex),
+    (1, "supported", Le32, FlagNames(Flags::Can)),
 };
 
 /// `IFLA_CAN_PWM_*` (include/uapi/linux/can/netlink.h), inside `IFLA_CAN_XL_PWM`.
@@ -567,4 +567,14 @@ pub(crate) const CAN_PWM: &[Entry] = rows! {
     (7, "pwms", Le32, Plain),
     (8, "pwml", Le32, Plain),
     (9, "pwmo", Le32, Plain),
+};
+
+/// `IFLA_OVPN_*`.
+pub(crate) const OVPN: &[Entry] = rows! {
+    (1, "mode", U8, Word(Words::OvpnMode)),
+};
+
+/// `IFLA_PPP_*`.
+pub(crate) const PPP: &[Entry] = rows! {
+    (1, "dev_fd", I32, Plain),
 };

@@ -18,7 +18,7 @@ pub enum Table {
 }
 
 impl Table {
-    ghost use Rattle.linkinfo_view.specs.Table.{table_of};
+    ghost use Rattle.linkinfo_view.specs.Table.{table_of, table_of_other};
 
     /// The table of the data of a link of this kind, a name without its NUL: that of the family,
     /// but one of their own for `sit` and `ip6tnl` links, which name flags and protocols in other
@@ -30,6 +30,22 @@ impl Table {
             Family::IpTunnel => Table::of_tunnel(kind),
             _ => Table::Family(family),
         }
+    }
+
+    /// The table of the data of a link of a kind that the library keeps as bytes, if it has rows;
+    /// the kind is a name without its NUL, and `None` is also the result for each other kind.
+    pub fn of_other(kind: &[u8]) -> Option<Table>
+        ensures { result ≡ table_of_other kind.now }
+    {
+        // Begin: written by tables/generate from tables/families (arms).
+        if kind == b"ovpn".as_slice() {
+            return Some(Table::Family(Family::Ovpn));
+        }
+        if kind == b"ppp".as_slice() {
+            return Some(Table::Family(Family::Ppp));
+        }
+        // End: written by tables/generate.
+        None
     }
 
     /// The table of a kind of tunnels over IP.
@@ -108,10 +124,25 @@ pub enum Format {
     /// The names of the flags that are set in the second of two numbers; flags without a name in
     /// hex. The first, a mask, is a member of its own (`struct can_ctrlmode`).
     SecondNames(Flags),
+    /// The names of the flags that are set in a number; flags without a name in hex
+    /// (`IFLA_CAN_CTRLMODE_SUPPORTED`).
+    FlagNames(Flags),
+    /// A number; and under its name with `_str` after it, the names of the flags that are set in
+    /// its low eight bits (`IFLA_BOND_SLAVE_AD_ACTOR_OPER_PORT_STATE`).
+    LacpState,
     /// Eight bytes, a priority and a hardware address (`struct ifla_bridge_id`).
     BridgeId,
     /// The eight numbers of a `struct can_bittiming`.
     BitTiming,
+    /// The name of a `struct can_bittiming_const`, up to its first NUL, and its eight numbers: each
+    /// limit as `min` and `max`, and 1 as the least `sjw`.
+    BitTimingConst,
+    /// The two numbers of a `struct can_berr_counter`, as `tx` and `rx`.
+    ErrorCounters,
+    /// An array of little-endian numbers of two bytes each (`IFLA_CAN_TERMINATION_CONST`).
+    Le16s,
+    /// An array of little-endian numbers of four bytes each (`IFLA_CAN_BITRATE_CONST`).
+    Le32s,
     /// A nested list of attributes that are all alike.
     List(Elements),
     /// A nested list of attributes with rows of their own.
@@ -179,6 +210,8 @@ pub enum Words {
     NetkitScrub,
     /// `IFLA_BOND_AD_LACP_ACTIVE`.
     OffOn,
+    /// `IFLA_OVPN_MODE`.
+    OvpnMode,
     /// `IFLA_BOND_PRIMARY_RESELECT`.
     PrimaryReselect,
     /// `IFLA_BR_STP_MODE`.
@@ -200,7 +233,7 @@ pub enum Words {
 pub enum Flags {
     /// `IFLA_BR_MULTI_BOOLOPT`.
     BridgeOptions,
-    /// `IFLA_CAN_CTRLMODE`.
+    /// `IFLA_CAN_CTRLMODE`, `IFLA_CAN_CTRLMODE_SUPPORTED`.
     Can,
     /// `IFLA_GRE_ENCAP_FLAGS`.
     Encap,
@@ -215,6 +248,8 @@ pub enum Flags {
     Ip6Tunnel,
     /// `IFLA_IPVLAN_FLAGS`.
     IpVlan,
+    /// `IFLA_BOND_SLAVE_AD_ACTOR_OPER_PORT_STATE`, `IFLA_BOND_SLAVE_AD_PARTNER_OPER_PORT_STATE`.
+    LacpState,
     /// `IFLA_MACVLAN_FLAGS`.
     MacVlan,
     /// `IFLA_RMNET_FLAGS`.

@@ -51,6 +51,7 @@ ghost use Rattle.linkinfo_view.specs.View.{
   put_all,
   rest_data,
   rest_member,
+  state_members,
   with_label,
 };
 ghost use Rattle.linkinfo_view.specs.Words.{flag_at as flag_of_place, flag_seen};
@@ -431,6 +432,23 @@ fn put_names(
     put(map, alloc, names.1, number_json(alloc, numbers.1)?)
 }
 
+/// Puts a number, and the names of the flags of its low eight bits.
+fn put_state(
+    alloc: Global,
+    name: &str,
+    number: u64,
+    map: &mut Map<String, Value>,
+) -> Result<(), AllocError>
+    ensures { OnOk result (members_view map.new.entries
+        ≡ put_all (state_members name.now number) (members_view map.old.entries)) }
+{
+    put(map, alloc, name, Value::from(number))?;
+    let mut names_name = String::from_str(alloc, name)?;
+    names_name.push_str("_str")?;
+    let names = names_json(alloc, Flags::LacpState, number % 256)?;
+    put(map, alloc, names_name.as_str(), names)
+}
+
 /// The name of an address: one for multicast addresses, and another.
 fn group_name<'a>(payload: &[u8], name: &'a str, other: &'a str) -> &'a str
     ensures { result.now ≡ (if has_multicast payload.now then name.now else other.now) }
@@ -489,6 +507,10 @@ fn put_formatted<N: Nesting>(
             let numbers = (second_of(datum), first_of(datum));
             put_names(alloc, flags, (name, "ctrlmode_mask"), numbers, map)
         }
+        Format::FlagNames(flags) => {
+            put(map, alloc, name, names_json(alloc, flags, first_of(datum))?)
+        }
+        Format::LacpState => put_state(alloc, name, first_of(datum), map),
         Format::List(elements) => put(map, alloc, name, elements_json(alloc, elements, payload)?),
         Format::Nested(family) => {
             put(

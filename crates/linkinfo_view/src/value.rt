@@ -1,17 +1,23 @@
 //! One payload as JSON: its value by a format.
 
-ghost use Rattle.std.specs.Prelude.{◌≡◌, ◌+◌, ◌≤◌, IfOk, length};
+ghost use Rattle.std.specs.Prelude.{◌≡◌, ◌+◌, ◌<◌, ◌≤◌, IfOk, OnOk, length};
 ghost use Rattle.linkinfo_shapes.specs.Data.{value_of};
-ghost use Rattle.serde_json.specs.View.{view};
+ghost use Rattle.serde_json.specs.Data.{put as members_put};
+ghost use Rattle.serde_json.specs.View.{members_view, view};
 ghost use Rattle.linkinfo_view.specs.Values.{
   IsMeant,
+  array_data,
+  before_nul,
+  bit_timing_const_data,
   bit_timing_data,
   bridge_id_data,
+  error_counters_data,
   first_of as first_number,
   flags_data,
   format_data,
   is_multicast as has_multicast,
   is_unspecified as has_zeros,
+  limit_data,
   named,
   number_at as number_in,
   number_data,
@@ -31,7 +37,7 @@ use crate::text::{
 use crate::words;
 use linkinfo_shapes::{Datum, Shape, read_datum};
 use nla_frame::Cause;
-use serde_json::{Map, Value, put};
+use serde_json::{Map, Value, push, put};
 use std::alloc::{AllocError, Global};
 
 /// What a payload means under a shape, or why the shape rejects it. Of a shape that a family reads
@@ -236,6 +242,115 @@ fn bit_timing_json(alloc: Global, payload: &[u8]) -> Result<Value, AllocError>
     Ok(Value::Object(map))
 }
 
+/// The bytes before the first NUL.
+fn before_nul(bytes: &[u8]) -> &[u8]
+    ensures { result.now ≡ before_nul bytes.now }
+{
+    match memchr::memchr(0, bytes) {
+        Some(end) => &bytes[..end],
+        None => bytes,
+    }
+}
+
+/// Puts a limit: its least and its greatest number.
+fn put_limit(
+    alloc: Global,
+    name: &str,
+    least: u32,
+    greatest: u32,
+    map: &mut Map<String, Value>,
+) -> Result<(), AllocError>
+    ensures { OnOk result (members_view map.new.entries
+        ≡ members_put name.now (limit_data least greatest) (members_view map.old.entries)) }
+{
+    put(
+        map,
+        alloc,
+        name,
+        pair_json(alloc, "min", least, "max", greatest)?,
+    )
+}
+
+/// The name and the limits of a `struct can_bittiming_const`.
+fn bit_timing_const_json(alloc: Global, payload: &[u8]) -> Result<Value, AllocError>
+    ensures { IfOk result (λ v. view v ≡ bit_timing_const_data payload.now) }
+{
+    if payload.len() != 48 {
+        return hex_json(alloc, payload);
+    }
+    let mut map = Map::new(alloc);
+    put(
+        &mut map,
+        alloc,
+        "name",
+        escaped_json(alloc, before_nul(&payload[..16]))?,
+    )?;
+    put_limit(
+        alloc,
+        "tseg1",
+        number_at(payload, 16),
+        number_at(payload, 20),
+        &mut map,
+    )?;
+    put_limit(
+        alloc,
+        "tseg2",
+        number_at(payload, 24),
+        number_at(payload, 28),
+        &mut map,
+    )?;
+    put_limit(alloc, "sjw", 1, number_at(payload, 32), &mut map)?;
+    put_limit(
+        alloc,
+        "brp",
+        number_at(payload, 36),
+        number_at(payload, 40),
+        &mut map,
+    )?;
+    put(
+        &mut map,
+        alloc,
+        "brp_inc",
+        Value::from(number_at(payload, 44)),
+    )?;
+    Ok(Value::Object(map))
+}
+
+/// The two numbers of a `struct can_berr_counter`.
+fn error_counters_json(alloc: Global, payload: &[u8]) -> Result<Value, AllocError>
+    ensures { IfOk result (λ v. view v ≡ error_counters_data payload.now) }
+{
+    if payload.len() != 4 {
+        return hex_json(alloc, payload);
+    }
+    let sent = u16::from_le_bytes([payload[0], payload[1]]);
+    let received = u16::from_le_bytes([payload[2], payload[3]]);
+    pair_json(alloc, "tx", u32::from(sent), "rx", u32::from(received))
+}
+
+/// The parts of a payload, each of so many bytes and shown by a shape, as an array.
+fn array_json(
+    alloc: Global,
+    width: usize,
+    shape: Shape,
+    payload: &[u8],
+) -> Result<Value, AllocError>
+    requires { 0 < width }
+    ensures { IfOk result (λ v. view v ≡ array_data width shape payload.now) }
+{
+    if payload.len() % width != 0 {
+        return hex_json(alloc, payload);
+    }
+    let mut items = Vec::new(alloc);
+    let mut rest = payload;
+    while !rest.is_empty() {
+        let (part, after) = rest.split_at(width);
+        push(&mut items, json_as(alloc, shape, part)?)?;
+        rest = after;
+    }
+    Ok(Value::Array(items))
+}
+
 /// A number as a boolean if it is 0 or 1, else as the number.
 fn switch_json(number: u64) -> Value
     ensures { view result ≡ switch_data number }
@@ -271,6 +386,10 @@ pub fn format_json(
         Format::Address => address_json(alloc, datum, payload),
         Format::BridgeId => bridge_json(alloc, payload),
         Format::BitTiming => bit_timing_json(alloc, payload),
+        Format::BitTimingConst => bit_timing_const_json(alloc, payload),
+        Format::ErrorCounters => error_counters_json(alloc, payload),
+        Format::Le16s => array_json(alloc, 2, Shape::Le16, payload),
+        Format::Le32s => array_json(alloc, 4, Shape::Le32, payload),
         _ => plain_json(alloc, datum),
     }
 }

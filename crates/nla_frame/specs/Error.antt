@@ -55,6 +55,8 @@ family_name family.BridgeQuerierState = codes "bridgequerierstate"
 family_name family.CanTdc = codes "cantdc"
 family_name family.CanCtrlModeExt = codes "canctrlmodeext"
 family_name family.CanPwm = codes "canpwm"
+family_name family.Ovpn = codes "ovpn"
+family_name family.Ppp = codes "ppp"
 
 -- End: written by tables/generate.
 

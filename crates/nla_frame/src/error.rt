@@ -105,6 +105,10 @@ pub enum Family {
     CanCtrlModeExt,
     /// `xl_pwm` of `can` links.
     CanPwm,
+    /// The data (`IFLA_INFO_DATA`) of `ovpn` links.
+    Ovpn,
+    /// The data (`IFLA_INFO_DATA`) of `ppp` links.
+    Ppp,
     // End: written by tables/generate.
 }
 
@@ -158,6 +162,8 @@ impl Family {
             Family::CanTdc => "cantdc",
             Family::CanCtrlModeExt => "canctrlmodeext",
             Family::CanPwm => "canpwm",
+            Family::Ovpn => "ovpn",
+            Family::Ppp => "ppp",
             // End: written by tables/generate.
         }
     }

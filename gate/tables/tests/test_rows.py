@@ -44,6 +44,9 @@ GreType  u16  type  types  others other(n)
 
 GreSet  u16  flags  -  by hand, default
     0x4000  GRE_KEY  Key  -  a key
+
+GreWide  u32  flags  -  default, as GreSet
+    The same flags in four bytes
 """
 
 
@@ -87,12 +90,14 @@ class Rows(unittest.TestCase):
                          [(1, "link"), (9, "proto"), (28, "")])
 
     def test_values(self):
-        """Numbers and names of values; a doc comment that begins with a number is none."""
+        """Numbers and names of values, also of a type that has those of another one; a doc comment
+        that begins with a number is none."""
         found = rows.numbers(self.folder(**{"numbers/gre": VALUES}))
         self.assertEqual(found, [
             rows.Value("tables/numbers/gre:6", "GreType", 1, "GRE_ONE", "One", False),
             rows.Value("tables/numbers/gre:7", "GreType", 2, "", "Two", False),
-            rows.Value("tables/numbers/gre:11", "GreSet", 0x4000, "GRE_KEY", "Key", True)])
+            rows.Value("tables/numbers/gre:11", "GreSet", 0x4000, "GRE_KEY", "Key", True),
+            rows.Value("tables/numbers/gre:11", "GreWide", 0x4000, "GRE_KEY", "Key", False)])
 
     def test_bad_tables(self):
         """What cannot be read is named with file and line."""

@@ -16,6 +16,8 @@ EDITS = [
     ("xfrm", "HexOrZero", "Hexx", "tables/xfrm:10: Hexx is no format of docs/SHOW.md"),
     ("xfrm", "links   xfrm", "links   xfrmm",
      "tables/xfrm:1: xfrmm of its line `links` is no kind of tables/kinds"),
+    ("ovpn", "links   ovpn (Other)", "links   ovpn",
+     "tables/ovpn:1: ovpn of its line `links` is no kind of tables/kinds"),
     ("xfrm", "about   an", "note    an", "tables/xfrm:1: the head has no line `about`"),
     ("kinds", "\n2     dummy", "\n70000  dummy", "tables/kinds:4: code 70000 is not below 65,536"),
 ]

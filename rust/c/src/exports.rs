@@ -15,6 +15,7 @@ use crate::calls::error::LinkinfoError;
 use crate::calls::items::{self, LinkinfoItem, LinkinfoListResult};
 use crate::calls::texts;
 use crate::calls::unmet::{self, LinkinfoUnmet};
+use crate::calls::usage;
 use crate::calls::values::{self, LinkinfoValuedAttribute};
 use core::alloc::{GlobalAlloc, Layout};
 use core::ptr::null_mut;
@@ -55,6 +56,14 @@ unsafe extern "C" fn linkinfo_check_inner(bytes: *const u8, length: usize) -> Li
 }
 
 #[unsafe(no_mangle)]
+unsafe extern "C" fn linkinfo_check_inner_opaque(
+    bytes: *const u8,
+    length: usize,
+) -> LinkinfoInnerError {
+    check::linkinfo_check_inner_opaque(unsafe { slice(bytes, length) })
+}
+
+#[unsafe(no_mangle)]
 unsafe extern "C" fn linkinfo_same(
     a: *const u8,
     a_length: usize,
@@ -65,6 +74,16 @@ unsafe extern "C" fn linkinfo_same(
 }
 
 #[unsafe(no_mangle)]
+unsafe extern "C" fn linkinfo_same_opaque(
+    a: *const u8,
+    a_length: usize,
+    b: *const u8,
+    b_length: usize,
+) -> LinkinfoSame {
+    check::linkinfo_same_opaque(unsafe { slice(a, a_length) }, unsafe { slice(b, b_length) })
+}
+
+#[unsafe(no_mangle)]
 unsafe extern "C" fn linkinfo_first_difference(
     a: *const u8,
     a_length: usize,
@@ -72,6 +91,18 @@ unsafe extern "C" fn linkinfo_first_difference(
     b_length: usize,
 ) -> LinkinfoDifference {
     difference::linkinfo_first_difference(unsafe { slice(a, a_length) }, unsafe {
+        slice(b, b_length)
+    })
+}
+
+#[unsafe(no_mangle)]
+unsafe extern "C" fn linkinfo_first_difference_opaque(
+    a: *const u8,
+    a_length: usize,
+    b: *const u8,
+    b_length: usize,
+) -> LinkinfoDifference {
+    difference::linkinfo_first_difference_opaque(unsafe { slice(a, a_length) }, unsafe {
         slice(b, b_length)
     })
 }
@@ -89,6 +120,18 @@ unsafe extern "C" fn linkinfo_first_unmet(
 }
 
 #[unsafe(no_mangle)]
+unsafe extern "C" fn linkinfo_first_unmet_opaque(
+    have: *const u8,
+    have_length: usize,
+    want: *const u8,
+    want_length: usize,
+) -> LinkinfoUnmet {
+    unmet::linkinfo_first_unmet_opaque(unsafe { slice(have, have_length) }, unsafe {
+        slice(want, want_length)
+    })
+}
+
+#[unsafe(no_mangle)]
 unsafe extern "C" fn linkinfo_count(bytes: *const u8, length: usize) -> LinkinfoCount {
     check::linkinfo_count(unsafe { slice(bytes, length) })
 }
@@ -101,6 +144,18 @@ unsafe extern "C" fn linkinfo_canon(
     buffer_length: usize,
 ) -> LinkinfoCanon {
     canon::linkinfo_canon(unsafe { slice(bytes, length) }, unsafe {
+        slice_mut(buffer, buffer_length)
+    })
+}
+
+#[unsafe(no_mangle)]
+unsafe extern "C" fn linkinfo_canon_opaque(
+    bytes: *const u8,
+    length: usize,
+    buffer: *mut u8,
+    buffer_length: usize,
+) -> LinkinfoCanon {
+    canon::linkinfo_canon_opaque(unsafe { slice(bytes, length) }, unsafe {
         slice_mut(buffer, buffer_length)
     })
 }
@@ -190,6 +245,11 @@ unsafe extern "C" fn linkinfo_attribute_name(
     length: usize,
 ) -> usize {
     texts::linkinfo_attribute_name(family, kind, unsafe { slice_mut(buffer, length) })
+}
+
+#[unsafe(no_mangle)]
+extern "C" fn linkinfo_attribute_use(family: u16, kind: u16) -> u16 {
+    usage::linkinfo_attribute_use(family, kind)
 }
 
 #[unsafe(no_mangle)]

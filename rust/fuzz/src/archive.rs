@@ -3,16 +3,19 @@
 
 use crate::random::Random;
 use linkinfo_c::calls::attributes::{LinkinfoAttribute, linkinfo_attributes};
-use linkinfo_c::calls::canon::{LinkinfoCanon, linkinfo_canon};
+use linkinfo_c::calls::canon::{LinkinfoCanon, linkinfo_canon, linkinfo_canon_opaque};
 use linkinfo_c::calls::check::{
     LinkinfoCount, LinkinfoErrorAt, LinkinfoInnerError, LinkinfoSame, linkinfo_check,
-    linkinfo_check_at, linkinfo_check_inner, linkinfo_count, linkinfo_same,
+    linkinfo_check_at, linkinfo_check_inner, linkinfo_check_inner_opaque, linkinfo_count,
+    linkinfo_same, linkinfo_same_opaque,
 };
-use linkinfo_c::calls::difference::{LinkinfoDifference, linkinfo_first_difference};
+use linkinfo_c::calls::difference::{
+    LinkinfoDifference, linkinfo_first_difference, linkinfo_first_difference_opaque,
+};
 use linkinfo_c::calls::error::LinkinfoError;
 use linkinfo_c::calls::items::{LinkinfoItem, LinkinfoListResult, linkinfo_items};
 use linkinfo_c::calls::texts::linkinfo_error_text;
-use linkinfo_c::calls::unmet::{LinkinfoUnmet, linkinfo_first_unmet};
+use linkinfo_c::calls::unmet::{LinkinfoUnmet, linkinfo_first_unmet, linkinfo_first_unmet_opaque};
 use linkinfo_c::calls::values::{LinkinfoValue, LinkinfoValuedAttribute, linkinfo_values};
 
 mod c {
@@ -26,7 +29,14 @@ mod c {
         pub fn linkinfo_check(bytes: *const u8, length: usize) -> LinkinfoError;
         pub fn linkinfo_check_at(bytes: *const u8, length: usize) -> LinkinfoErrorAt;
         pub fn linkinfo_check_inner(bytes: *const u8, length: usize) -> LinkinfoInnerError;
+        pub fn linkinfo_check_inner_opaque(bytes: *const u8, length: usize) -> LinkinfoInnerError;
         pub fn linkinfo_first_difference(
+            a: *const u8,
+            a_length: usize,
+            b: *const u8,
+            b_length: usize,
+        ) -> LinkinfoDifference;
+        pub fn linkinfo_first_difference_opaque(
             a: *const u8,
             a_length: usize,
             b: *const u8,
@@ -38,7 +48,19 @@ mod c {
             b: *const u8,
             b_length: usize,
         ) -> LinkinfoSame;
+        pub fn linkinfo_same_opaque(
+            a: *const u8,
+            a_length: usize,
+            b: *const u8,
+            b_length: usize,
+        ) -> LinkinfoSame;
         pub fn linkinfo_canon(
+            bytes: *const u8,
+            length: usize,
+            buffer: *mut u8,
+            buffer_length: usize,
+        ) -> LinkinfoCanon;
+        pub fn linkinfo_canon_opaque(
             bytes: *const u8,
             length: usize,
             buffer: *mut u8,
@@ -59,6 +81,12 @@ mod c {
             attributes_length: usize,
         ) -> LinkinfoListResult;
         pub fn linkinfo_first_unmet(
+            have: *const u8,
+            have_length: usize,
+            want: *const u8,
+            want_length: usize,
+        ) -> LinkinfoUnmet;
+        pub fn linkinfo_first_unmet_opaque(
             have: *const u8,
             have_length: usize,
             want: *const u8,
@@ -102,10 +130,11 @@ const NO_VALUE: LinkinfoValuedAttribute = LinkinfoValuedAttribute {
         first: 6,
         second: 7,
         value_type: 8,
+        list_kind: 9,
         truth: true,
     },
-    raw_kind: 9,
-    shape: 10,
+    raw_kind: 10,
+    shape: 11,
 };
 
 /// (For every call: the pointers are those of slices, with their lengths.)
@@ -131,9 +160,34 @@ pub fn compare(random: &mut Random, bytes: &[u8], second: &[u8]) {
     assert_eq!(linkinfo_first_unmet(bytes, second), unsafe {
         c::linkinfo_first_unmet(start, length, second.as_ptr(), second.len())
     });
+    opaque(bytes, second);
     canonical(random, bytes);
     texts(random, error);
     items(random, bytes);
+}
+
+/// The calls that keep attributes of bonds, bridges and their like verbatim.
+fn opaque(bytes: &[u8], second: &[u8]) {
+    let (start, length) = (bytes.as_ptr(), bytes.len());
+    assert_eq!(linkinfo_check_inner_opaque(bytes), unsafe {
+        c::linkinfo_check_inner_opaque(start, length)
+    });
+    assert_eq!(linkinfo_first_difference_opaque(bytes, second), unsafe {
+        c::linkinfo_first_difference_opaque(start, length, second.as_ptr(), second.len())
+    });
+    assert_eq!(linkinfo_same_opaque(bytes, second), unsafe {
+        c::linkinfo_same_opaque(start, length, second.as_ptr(), second.len())
+    });
+    assert_eq!(linkinfo_first_unmet_opaque(bytes, second), unsafe {
+        c::linkinfo_first_unmet_opaque(start, length, second.as_ptr(), second.len())
+    });
+    let mut ours = vec![0xa5; ROOM];
+    let mut theirs = ours.clone();
+    let result = linkinfo_canon_opaque(bytes, &mut ours);
+    assert_eq!(result, unsafe {
+        c::linkinfo_canon_opaque(start, length, theirs.as_mut_ptr(), ROOM)
+    });
+    assert_eq!(ours, theirs);
 }
 
 fn canonical(random: &mut Random, bytes: &[u8]) {

@@ -6,6 +6,7 @@
 mod assertions;
 mod data;
 mod emission;
+mod flag_words;
 mod flags;
 mod framing;
 mod kinds;

@@ -43,18 +43,21 @@ const SHAPES: &[(u16, Shape)] = &[
 /// Canonical attributes of rows with short payloads of one length, and their values as `Debug`
 /// writes them.
 const ROWS: &[(&[u8], &str)] = &[
-    (&[8, 0, 3, 0, 4, 3, 2, 1], "Clock(16909060)"),
+    (
+        &[8, 0, 3, 0, 4, 3, 2, 1],
+        "Clock(CanClock { freq: 16909060 })",
+    ),
     (&[8, 0, 4, 0, 3, 0, 0, 0], "State(BusOff)"),
     (&[8, 0, 4, 0, 4, 3, 2, 1], "State(Other(16909060))"),
     (
         &[12, 0, 5, 0, 4, 3, 2, 1, 5, 0, 0, 0],
-        "CtrlMode((CanCtrlModeFlags(16909060), CanCtrlModeFlags(5)))",
+        "CtrlMode(CanCtrlMode { mask: CanCtrlModeFlags(16909060), flags: CanCtrlModeFlags(5) })",
     ),
     (&[8, 0, 6, 0, 4, 3, 2, 1], "RestartMs(16909060)"),
     (&[8, 0, 7, 0, 4, 3, 2, 1], "Restart(16909060)"),
     (
         &[8, 0, 8, 0, 2, 1, 3, 0],
-        "BerrCounter(CanBerrCounter { transmit: 258, receive: 3 })",
+        "BerrCounter(CanBerrCounter { txerr: 258, rxerr: 3 })",
     ),
     (&[6, 0, 11, 0, 2, 1, 0, 0], "Termination(258)"),
     (&[8, 0, 15, 0, 4, 3, 2, 1], "BitRateMax(16909060)"),
@@ -113,10 +116,7 @@ impl HoldsOthers for InfoCan {
 
 impl HasExample for InfoCan {
     fn example() -> InfoCan {
-        InfoCan::BerrCounter(CanBerrCounter {
-            transmit: 1,
-            receive: 2,
-        })
+        InfoCan::BerrCounter(CanBerrCounter { txerr: 1, rxerr: 2 })
     }
 }
 
@@ -252,49 +252,49 @@ const UNFLAGGED: &[u8] = &[
 const LISTS: &[(&[u8], &str, usize, &[u8])] = &[
     (
         TIMING,
-        "[BitTiming(CanBitTiming { bit_rate: 16909060, sample_point: 2, time_quantum: 3, \
-         propagation_segment: 4, phase_segment_1: 5, phase_segment_2: 6, jump_width: 7, \
-         prescaler: 8 })]",
+        "[BitTiming(CanBitTiming { bitrate: 16909060, sample_point: 2, tq: 3, \
+         prop_seg: 4, phase_seg1: 5, phase_seg2: 6, sjw: 7, \
+         brp: 8 })]",
         1,
         TIMING,
     ),
     (
         LIMITS,
         "[BitTimingConst(CanBitTimingConst { name: [109, 99, 112, 0, 1, 0, 0, 0, 0, 0, 0, 0, 0, \
-         0, 0, 2], segment_1_min: 1, segment_1_max: 2, segment_2_min: 3, segment_2_max: 4, \
-         jump_width_max: 5, prescaler_min: 6, prescaler_max: 7, prescaler_increment: 16909060 })]",
+         0, 0, 2], tseg1_min: 1, tseg1_max: 2, tseg2_min: 3, tseg2_max: 4, \
+         sjw_max: 5, brp_min: 6, brp_max: 7, brp_inc: 16909060 })]",
         1,
         LIMITS,
     ),
     (
         FD_TIMING,
-        "[DataBitTiming(CanBitTiming { bit_rate: 16909060, sample_point: 2, time_quantum: 3, \
-         propagation_segment: 4, phase_segment_1: 5, phase_segment_2: 6, jump_width: 7, \
-         prescaler: 8 })]",
+        "[DataBitTiming(CanBitTiming { bitrate: 16909060, sample_point: 2, tq: 3, \
+         prop_seg: 4, phase_seg1: 5, phase_seg2: 6, sjw: 7, \
+         brp: 8 })]",
         1,
         FD_TIMING,
     ),
     (
         XL_TIMING,
-        "[XlDataBitTiming(CanBitTiming { bit_rate: 16909060, sample_point: 2, time_quantum: 3, \
-         propagation_segment: 4, phase_segment_1: 5, phase_segment_2: 6, jump_width: 7, \
-         prescaler: 8 })]",
+        "[XlDataBitTiming(CanBitTiming { bitrate: 16909060, sample_point: 2, tq: 3, \
+         prop_seg: 4, phase_seg1: 5, phase_seg2: 6, sjw: 7, \
+         brp: 8 })]",
         1,
         XL_TIMING,
     ),
     (
         FD_LIMITS,
         "[DataBitTimingConst(CanBitTimingConst { name: [109, 99, 112, 0, 1, 0, 0, 0, 0, 0, 0, \
-         0, 0, 0, 0, 2], segment_1_min: 1, segment_1_max: 2, segment_2_min: 3, segment_2_max: 4, \
-         jump_width_max: 5, prescaler_min: 6, prescaler_max: 7, prescaler_increment: 16909060 })]",
+         0, 0, 0, 0, 2], tseg1_min: 1, tseg1_max: 2, tseg2_min: 3, tseg2_max: 4, \
+         sjw_max: 5, brp_min: 6, brp_max: 7, brp_inc: 16909060 })]",
         1,
         FD_LIMITS,
     ),
     (
         XL_LIMITS,
         "[XlDataBitTimingConst(CanBitTimingConst { name: [109, 99, 112, 0, 1, 0, 0, 0, 0, 0, 0, \
-         0, 0, 0, 0, 2], segment_1_min: 1, segment_1_max: 2, segment_2_min: 3, segment_2_max: 4, \
-         jump_width_max: 5, prescaler_min: 6, prescaler_max: 7, prescaler_increment: 16909060 })]",
+         0, 0, 0, 0, 2], tseg1_min: 1, tseg1_max: 2, tseg2_min: 3, tseg2_max: 4, \
+         sjw_max: 5, brp_min: 6, brp_max: 7, brp_inc: 16909060 })]",
         1,
         XL_LIMITS,
     ),
@@ -427,14 +427,14 @@ fn reply_of_a_kernel(rt: HostRuntime) {
 fn values_of_records(rt: HostRuntime) {
     let alloc = rt.alloc();
     let value = InfoCan::BitTiming(CanBitTiming {
-        bit_rate: 16_909_060,
+        bitrate: 16_909_060,
         sample_point: 2,
-        time_quantum: 3,
-        propagation_segment: 4,
-        phase_segment_1: 5,
-        phase_segment_2: 6,
-        jump_width: 7,
-        prescaler: 8,
+        tq: 3,
+        prop_seg: 4,
+        phase_seg1: 5,
+        phase_seg2: 6,
+        sjw: 7,
+        brp: 8,
     });
     assert_is(
         &rt,
@@ -445,14 +445,14 @@ fn values_of_records(rt: HostRuntime) {
     is_parsed(&rt, alloc, TIMING, &value);
     let value = InfoCan::BitTimingConst(CanBitTimingConst {
         name: *b"mcp\0\x01\0\0\0\0\0\0\0\0\0\0\x02",
-        segment_1_min: 1,
-        segment_1_max: 2,
-        segment_2_min: 3,
-        segment_2_max: 4,
-        jump_width_max: 5,
-        prescaler_min: 6,
-        prescaler_max: 7,
-        prescaler_increment: 16_909_060,
+        tseg1_min: 1,
+        tseg1_max: 2,
+        tseg2_min: 3,
+        tseg2_max: 4,
+        sjw_max: 5,
+        brp_min: 6,
+        brp_max: 7,
+        brp_inc: 16_909_060,
     });
     assert_is(
         &rt,

@@ -1,13 +1,13 @@
-//! Typed attributes of `tun`, `hsr` and `dsa` links.
+//! Typed attributes of `tun`, `hsr`, `dsa`, `ovpn` and `ppp` links.
 
 use super::lengths::has_only_length;
 use super::rows::{
     HasExample, HoldsOthers, UNLISTED, has_one_length, has_rows, has_rows_and_others, has_shapes,
     is_list, list_is_written_as,
 };
-use linkinfo_numbers::{HsrProtocol, TunType};
+use linkinfo_numbers::{HsrProtocol, OvpnMode, TunType};
 use linkinfo_table::Shape;
-use linkinfo_typed::{InfoDsa, InfoHsr, InfoTun};
+use linkinfo_typed::{InfoDsa, InfoHsr, InfoOvpn, InfoPpp, InfoTun};
 use nla_frame::DefaultNla;
 
 /// Types of tun links, and the shapes of their rows.
@@ -142,6 +142,65 @@ fn rows_of_dsa(rt: HostRuntime) {
     has_one_length::<InfoDsa>(&rt, alloc, (), &[8, 0, 1, 0, 7, 0, 0, 0]);
 }
 
+/// Canonical attributes of OpenVPN devices, and their values as `Debug` writes them.
+const OVPN_ROWS: &[(&[u8], &str)] = &[
+    (&[5, 0, 1, 0, 0, 0, 0, 0], "Mode(P2p)"),
+    (&[5, 0, 1, 0, 1, 0, 0, 0], "Mode(Mp)"),
+    (&[5, 0, 1, 0, 2, 0, 0, 0], "Mode(Other(2))"),
+];
+
+impl HoldsOthers for InfoOvpn {
+    fn from_other(nla: DefaultNla) -> InfoOvpn {
+        InfoOvpn::Other(nla)
+    }
+}
+
+impl HasExample for InfoOvpn {
+    fn example() -> InfoOvpn {
+        InfoOvpn::Mode(OvpnMode::Mp)
+    }
+}
+
+#[test]
+fn rows_of_ovpn(rt: HostRuntime) {
+    let alloc = rt.alloc();
+    has_shapes::<InfoOvpn>(&rt, (), &[(1, Shape::U8)]);
+    // The kernel's reply for a device with several peers.
+    let reply = [5, 0, 1, 0, 1, 0, 0, 0];
+    has_rows_and_others::<InfoOvpn>(&rt, alloc, OVPN_ROWS, UNLISTED, &reply);
+    is_list::<InfoOvpn>(&rt, alloc, (), &reply, "[Mode(Mp)]");
+    has_one_length::<InfoOvpn>(&rt, alloc, (), &[5, 0, 1, 0, 1]);
+}
+
+/// Canonical attributes of PPP devices, and their values as `Debug` writes them.
+const PPP_ROWS: &[(&[u8], &str)] = &[
+    (&[8, 0, 1, 0, 4, 3, 2, 1], "DevFd(16909060)"),
+    (&[8, 0, 1, 0, 0, 0, 0, 128], "DevFd(-2147483648)"),
+    (&[8, 0, 1, 0, 255, 255, 255, 255], "DevFd(-1)"),
+];
+
+impl HoldsOthers for InfoPpp {
+    fn from_other(nla: DefaultNla) -> InfoPpp {
+        InfoPpp::Other(nla)
+    }
+}
+
+impl HasExample for InfoPpp {
+    fn example() -> InfoPpp {
+        InfoPpp::DevFd(7)
+    }
+}
+
+#[test]
+fn rows_of_ppp(rt: HostRuntime) {
+    let alloc = rt.alloc();
+    has_shapes::<InfoPpp>(&rt, (), &[(1, Shape::I32)]);
+    has_rows_and_others::<InfoPpp>(&rt, alloc, PPP_ROWS, UNLISTED, &[8, 0, 1, 0, 7, 0, 0, 0]);
+    has_one_length::<InfoPpp>(&rt, alloc, (), &[8, 0, 1, 0, 7, 0, 0, 0]);
+    // The kernel's reply has no attribute.
+    is_list::<InfoPpp>(&rt, alloc, (), &[], "[]");
+}
+
 #[test]
 fn every_length(rt: HostRuntime) {
     for (kind, length) in [
@@ -170,4 +229,6 @@ fn every_length(rt: HostRuntime) {
         has_only_length::<InfoHsr>(&rt, kind, length);
     }
     has_only_length::<InfoDsa>(&rt, 1, 4);
+    has_only_length::<InfoOvpn>(&rt, 1, 1);
+    has_only_length::<InfoPpp>(&rt, 1, 4);
 }

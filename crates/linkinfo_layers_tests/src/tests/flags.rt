@@ -3,7 +3,8 @@
 use super::assertions::assert_is;
 use bitflags::Flags;
 use linkinfo_numbers::{
-    GreEncapFlags, GreIOFlags, InfoRmNetFlags, Ip6TunnelFlags, IpVlanFlags, KeepsEveryBit,
+    BridgeBooleanOptionFlags, BridgeBooleanOptions, CanCtrlMode, CanCtrlModeFlags, GreEncapFlags,
+    GreIOFlags, InfoRmNetFlags, Ip6TunnelFlags, IpVlanFlags, KeepsEveryBit, LacpState, LacpState16,
     MacVlanFlags, RmNetFlags, TunnelEncapFlags, VlanFlags, bits_again, laws,
 };
 use nla_frame::is_equal;
@@ -123,6 +124,86 @@ fn named_bits_of_devices(rt: HostRuntime) {
     );
 }
 
+#[test]
+fn named_bits_of_ports(rt: HostRuntime) {
+    laws::lacp_state_bits();
+    laws::lacp_state16_bits();
+    assert_is(
+        &rt,
+        "LacpState",
+        [
+            LacpState::Activity.bits(),
+            LacpState::Timeout.bits(),
+            LacpState::Aggregation.bits(),
+            LacpState::Synchronization.bits(),
+            LacpState::Collecting.bits(),
+            LacpState::Distributing.bits(),
+            LacpState::Defaulted.bits(),
+            LacpState::Expired.bits(),
+        ],
+        [0x01, 0x02, 0x04, 0x08, 0x10, 0x20, 0x40, 0x80],
+    );
+    assert_is(
+        &rt,
+        "LacpState16",
+        [
+            LacpState16::Activity.bits(),
+            LacpState16::Timeout.bits(),
+            LacpState16::Aggregation.bits(),
+            LacpState16::Synchronization.bits(),
+            LacpState16::Collecting.bits(),
+            LacpState16::Distributing.bits(),
+            LacpState16::Defaulted.bits(),
+            LacpState16::Expired.bits(),
+        ],
+        [0x01, 0x02, 0x04, 0x08, 0x10, 0x20, 0x40, 0x80],
+    );
+}
+
+#[test]
+fn named_bits_of_options(rt: HostRuntime) {
+    laws::bridge_boolean_option_flag_bits();
+    laws::can_ctrl_mode_flag_bits();
+    assert_is(
+        &rt,
+        "BridgeBooleanOptionFlags",
+        [
+            BridgeBooleanOptionFlags::NoLinkLocalLearn.bits(),
+            BridgeBooleanOptionFlags::VlanMulticastSnooping.bits(),
+            BridgeBooleanOptionFlags::MstEnable.bits(),
+            BridgeBooleanOptionFlags::MdbOffloadFailNotif.bits(),
+            BridgeBooleanOptionFlags::FdbLocalVlan0.bits(),
+        ],
+        [0x1, 0x2, 0x4, 0x8, 0x10],
+    );
+    assert_is(
+        &rt,
+        "CanCtrlModeFlags",
+        [
+            CanCtrlModeFlags::Loopback.bits(),
+            CanCtrlModeFlags::ListenOnly.bits(),
+            CanCtrlModeFlags::TripleSampling.bits(),
+            CanCtrlModeFlags::OneShot.bits(),
+            CanCtrlModeFlags::BerrReporting.bits(),
+            CanCtrlModeFlags::Fd.bits(),
+            CanCtrlModeFlags::PresumeAck.bits(),
+            CanCtrlModeFlags::FdNonIso.bits(),
+            CanCtrlModeFlags::CcLen8Dlc.bits(),
+            CanCtrlModeFlags::TdcAuto.bits(),
+            CanCtrlModeFlags::TdcManual.bits(),
+            CanCtrlModeFlags::Restricted.bits(),
+            CanCtrlModeFlags::Xl.bits(),
+            CanCtrlModeFlags::XlTdcAuto.bits(),
+            CanCtrlModeFlags::XlTdcManual.bits(),
+            CanCtrlModeFlags::XlTms.bits(),
+        ],
+        [
+            0x1, 0x2, 0x4, 0x8, 0x10, 0x20, 0x40, 0x80, 0x100, 0x200, 0x400, 0x800, 0x1000, 0x2000,
+            0x4000, 0x8000,
+        ],
+    );
+}
+
 /// The number of named flags of a set, and the first name.
 fn names<F: Flags>() -> (usize, Option<&'static str>) {
     let flags = F::flags();
@@ -144,6 +225,10 @@ fn flags_have_names(rt: HostRuntime) {
             names::<MacVlanFlags>(),
             names::<RmNetFlags>(),
             names::<VlanFlags>(),
+            names::<BridgeBooleanOptionFlags>(),
+            names::<CanCtrlModeFlags>(),
+            names::<LacpState>(),
+            names::<LacpState16>(),
         ],
         [
             (9, Some("Checksum")),
@@ -154,6 +239,10 @@ fn flags_have_names(rt: HostRuntime) {
             (2, Some("NoPromisc")),
             (6, Some("IngressDeaggregation")),
             (5, Some("ReorderHdr")),
+            (5, Some("NoLinkLocalLearn")),
+            (16, Some("Loopback")),
+            (8, Some("Activity")),
+            (8, Some("Activity")),
         ],
     );
 }
@@ -178,8 +267,9 @@ fn every_number_is_a_set(rt: HostRuntime) {
                 bits_again::<TunnelEncapFlags>(bits),
                 bits_again::<IpVlanFlags>(bits),
                 bits_again::<MacVlanFlags>(bits),
+                bits_again::<LacpState16>(bits),
             ],
-            [kept; 5],
+            [kept; 6],
         );
     }
     for bits in LONG_SETS {
@@ -192,9 +282,15 @@ fn every_number_is_a_set(rt: HostRuntime) {
                 bits_again::<Ip6TunnelFlags>(bits),
                 bits_again::<RmNetFlags>(bits),
                 bits_again::<VlanFlags>(bits),
+                bits_again::<BridgeBooleanOptionFlags>(bits),
+                bits_again::<CanCtrlModeFlags>(bits),
             ],
-            [kept; 3],
+            [kept; 5],
         );
+    }
+    for bits in [0, 1, 0x7f, 0x80, u8::MAX] {
+        let kept = (Some(bits), bits);
+        assert_is(&rt, bits, bits_again::<LacpState>(bits), kept);
     }
 }
 
@@ -208,6 +304,11 @@ fn sets_of_bits(rt: HostRuntime) {
     assert!(rt; is_equal(&GreEncapFlags::default(), &GreEncapFlags::empty()));
     assert!(rt; is_equal(&IpVlanFlags::default(), &IpVlanFlags::empty()));
     assert!(rt; is_equal(&VlanFlags::default(), &VlanFlags::empty()));
+    assert!(rt; is_equal(&LacpState::default(), &LacpState::empty()));
+    assert!(rt; is_equal(&LacpState16::default(), &LacpState16::empty()));
+    let options = BridgeBooleanOptionFlags::default();
+    assert!(rt; is_equal(&options, &BridgeBooleanOptionFlags::empty()));
+    assert!(rt; is_equal(&CanCtrlModeFlags::default(), &CanCtrlModeFlags::empty()));
 }
 
 #[test]
@@ -222,6 +323,28 @@ fn flags_under_a_mask(rt: HostRuntime) {
         (1, 255),
     );
     assert!(rt; both != InfoRmNetFlags::new(mask, flags));
+}
+
+#[test]
+fn records_of_two_sets(rt: HostRuntime) {
+    let value = BridgeBooleanOptionFlags::MstEnable;
+    let mask = BridgeBooleanOptionFlags::from_bits_retain(0x1f);
+    let options = BridgeBooleanOptions { value, mask };
+    assert!(rt; is_equal(&options, &BridgeBooleanOptions { value, mask }));
+    let swapped = BridgeBooleanOptions {
+        value: mask,
+        mask: value,
+    };
+    assert!(rt; !is_equal(&options, &swapped));
+    let mask = CanCtrlModeFlags::Fd;
+    let flags = CanCtrlModeFlags::empty();
+    let mode = CanCtrlMode { mask, flags };
+    assert!(rt; is_equal(&mode, &CanCtrlMode { mask, flags }));
+    let swapped = CanCtrlMode {
+        mask: flags,
+        flags: mask,
+    };
+    assert!(rt; !is_equal(&mode, &swapped));
 }
 
 fn hash_of<T: Hash>(value: &T) -> u64 {

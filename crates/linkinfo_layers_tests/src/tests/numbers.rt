@@ -2,10 +2,10 @@
 
 use super::assertions::assert_is;
 use linkinfo_numbers::{
-    AmtMode, ErSpanDir, EthernetProtocol, GeneveDf, GreEncapType, GtpRole, HsrProtocol, IpProtocol,
-    IpVlanMode, IpoibMode, MacSecCipherId, MacSecOffload, MacSecValidate, MacVlanMacAddressMode,
-    MacVlanMode, NetkitMode, NetkitPolicy, NetkitScrub, TunType, TunnelEncapType, VlanProtocol,
-    VxlanDf, laws,
+    AmtMode, BridgeMulticastRouterType, CanClock, ErSpanDir, EthernetProtocol, GeneveDf,
+    GreEncapType, GtpRole, HsrProtocol, IpProtocol, IpVlanMode, IpoibMode, MacSecCipherId,
+    MacSecOffload, MacSecValidate, MacVlanMacAddressMode, MacVlanMode, NetkitMode, NetkitPolicy,
+    NetkitScrub, OnOff, OvpnMode, TunType, TunnelEncapType, VlanProtocol, VxlanDf, laws,
 };
 use std::fmt::Debug;
 use std::process::Abort;
@@ -209,6 +209,43 @@ const HSR_PROTOCOLS: &[(u8, HsrProtocol)] = &[
     (u8::MAX, HsrProtocol::Other(u8::MAX)),
 ];
 
+const ON_OFF: &[(u8, OnOff)] = &[
+    (0, OnOff::Off),
+    (1, OnOff::On),
+    (2, OnOff::Other(2)),
+    (u8::MAX, OnOff::Other(u8::MAX)),
+];
+
+const MULTICAST_ROUTERS: &[(u8, BridgeMulticastRouterType)] = &[
+    (0, BridgeMulticastRouterType::Disabled),
+    (1, BridgeMulticastRouterType::TempQuery),
+    (1, BridgeMulticastRouterType::Auto),
+    (2, BridgeMulticastRouterType::Permanent),
+    (3, BridgeMulticastRouterType::Temp),
+    (4, BridgeMulticastRouterType::Other(4)),
+    (u8::MAX, BridgeMulticastRouterType::Other(u8::MAX)),
+];
+
+const OVPN_MODES: &[(u8, OvpnMode)] = &[
+    (0, OvpnMode::P2p),
+    (1, OvpnMode::Mp),
+    (2, OvpnMode::Other(2)),
+    (u8::MAX, OvpnMode::Other(u8::MAX)),
+];
+
+const CAN_CLOCKS: &[(u32, CanClock)] = &[
+    (0, CanClock { freq: 0 }),
+    (8_000_000, CanClock { freq: 8_000_000 }),
+    (u32::MAX, CanClock { freq: u32::MAX }),
+];
+
+#[test]
+fn switches(rt: HostRuntime) {
+    check_both_ways(&rt, ON_OFF);
+    assert_is(&rt, "true", OnOff::from(true), OnOff::On);
+    assert_is(&rt, "false", OnOff::from(false), OnOff::Off);
+}
+
 #[test]
 fn tunnel_numbers(rt: HostRuntime) {
     laws::value_round_trip();
@@ -236,6 +273,9 @@ fn device_numbers(rt: HostRuntime) {
     check_both_ways(&rt, NETKIT_POLICIES);
     check_both_ways(&rt, TUN_TYPES);
     check_both_ways(&rt, HSR_PROTOCOLS);
+    check_both_ways(&rt, MULTICAST_ROUTERS);
+    check_both_ways(&rt, OVPN_MODES);
+    check_both_ways(&rt, CAN_CLOCKS);
 }
 
 /// Numbers of types with a conversion from a reference.

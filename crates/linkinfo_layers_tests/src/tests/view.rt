@@ -1,5 +1,6 @@
 //! Lists of attributes as JSON. Where a list is one that iproute2 prints, the text is the object
-//! that `ip -d -j link` of version 7.3 prints, with the masks that it hides.
+//! that `ip -d -j link` of version 7.3 prints, with the masks that it hides, and without what it
+//! makes of several attributes.
 
 use super::assertions::assert_is;
 use linkinfo_view::{Table, attributes_json, escaped};
@@ -51,6 +52,44 @@ const LISTS: &[(Table, &[u8], &str)] = &[
         "{\"bittiming\":{\"bitrate\":500000,\"brp\":0,\"phase_seg1\":0,\"phase_seg2\":0,\"pro\
          p_seg\":0,\"sample_point\":\"0.875\",\"sjw\":0,\"tq\":0},\"ctrlmode\":[\"LOOPBACK\",\
          \"ONE-SHOT\",\"BERR-REPORTING\"],\"ctrlmode_mask\":\"0x1b\",\"restart_ms\":100}",
+    ),
+    (
+        Table::Family(Family::Can),
+        &[
+            0x34, 0x00, 0x02, 0x00, 0x73, 0x6a, 0x61, 0x31, 0x30, 0x30, 0x30, 0x00, 0x07, 0x07,
+            0x07, 0x07, 0x07, 0x07, 0x07, 0x07, 0x01, 0x00, 0x00, 0x00, 0x10, 0x00, 0x00, 0x00,
+            0x02, 0x00, 0x00, 0x00, 0x08, 0x00, 0x00, 0x00, 0x04, 0x00, 0x00, 0x00, 0x03, 0x00,
+            0x00, 0x00, 0x40, 0x00, 0x00, 0x00, 0x05, 0x00, 0x00, 0x00, 0x08, 0x00, 0x08, 0x00,
+            0x03, 0x00, 0x03, 0x01, 0x06, 0x00, 0x0b, 0x00, 0x78, 0x00, 0x00, 0x00, 0x0a, 0x00,
+            0x0c, 0x00, 0x00, 0x00, 0x3c, 0x00, 0x78, 0x00, 0x00, 0x00, 0x0c, 0x00, 0x0d, 0x00,
+            0x20, 0xa1, 0x07, 0x00, 0x00, 0x00, 0x00, 0x80,
+        ],
+        "{\"berr_counter\":{\"rx\":259,\"tx\":3},\"bitrate_const\":[500000,2147483648],\"\
+         bittiming_const\":{\"brp\":{\"max\":64,\"min\":3},\"brp_inc\":5,\"name\":\"sja10\
+         00\",\"sjw\":{\"max\":4,\"min\":1},\"tseg1\":{\"max\":16,\"min\":1},\"tseg2\":{\
+         \"max\":8,\"min\":2}},\"termination\":120,\"termination_const\":[0,60,120]}",
+    ),
+    (
+        Table::Family(Family::Can),
+        &[
+            0x07, 0x00, 0x08, 0x00, 0x01, 0x00, 0x02, 0x00, 0x07, 0x00, 0x0c, 0x00, 0x01, 0x00,
+            0x02, 0x00, 0x09, 0x00, 0x0d, 0x00, 0x01, 0x00, 0x00, 0x00, 0x02, 0x00, 0x00, 0x00,
+            0x0c, 0x00, 0x11, 0x00, 0x08, 0x00, 0x01, 0x00, 0x81, 0x10, 0x01, 0x00,
+        ],
+        "{\"berr_counter\":\"010002\",\"bitrate_const\":\"0100000002\",\"ctrlmode_ext\":{\
+         \"supported\":[\"LOOPBACK\",\"FD-NON-ISO\",\"XL\",\"0x10000\"]},\"termination_co\
+         nst\":\"010002\"}",
+    ),
+    (
+        Table::Family(Family::BondPort),
+        &[
+            0x05, 0x00, 0x07, 0x00, 0x3d, 0x00, 0x00, 0x00, 0x06, 0x00, 0x08, 0x00, 0xc2, 0x01,
+            0x00, 0x00,
+        ],
+        "{\"ad_actor_oper_port_state\":61,\"ad_actor_oper_port_state_str\":[\"active\",\"\
+         aggregating\",\"in_sync\",\"collecting\",\"distributing\"],\"ad_partner_oper_por\
+         t_state\":450,\"ad_partner_oper_port_state_str\":[\"short_timeout\",\"defaulted\
+         \",\"expired\"]}",
     ),
     (
         Table::Family(Family::Vrf),
@@ -109,6 +148,11 @@ fn tables_of_kinds(rt: HostRuntime) {
     assert_is(&rt, "ip6tnl", of_ip_tunnel(b"ip6tnl"), Table::Ip6Tunnel);
     let of_family = Table::Family(Family::IpTunnel);
     assert_is(&rt, "ipip", of_ip_tunnel(b"ipip"), of_family);
+    let of_ovpn = Some(Table::Family(Family::Ovpn));
+    assert_is(&rt, "ovpn", Table::of_other(b"ovpn"), of_ovpn);
+    let of_ppp = Some(Table::Family(Family::Ppp));
+    assert_is(&rt, "ppp", Table::of_other(b"ppp"), of_ppp);
+    assert_is(&rt, "sit", Table::of_other(b"sit"), None);
 }
 
 #[test]

@@ -3,7 +3,8 @@
 use super::assertions::{assert_displayed, assert_is, decode_error};
 use linkinfo_numbers::{
     AmtMode, ErSpanDir, GeneveDf, GreEncapType, GtpRole, HsrProtocol, IpVlanMode, MacVlanMode,
-    NetkitMode, NetkitPolicy, NetkitScrub, TunType, TunnelEncapType, VlanProtocol, VxlanDf, laws,
+    NetkitMode, NetkitPolicy, NetkitScrub, OnOff, OvpnMode, TunType, TunnelEncapType, VlanProtocol,
+    VxlanDf, laws,
 };
 use nla_frame::{Cause, DecodeError, Family};
 use std::alloc::Global;
@@ -82,6 +83,10 @@ const TUN_WORDS: &[(TunType, &str)] = &[(TunType::Tun, "tun"), (TunType::Tap, "t
 
 const HSR_WORDS: &[(HsrProtocol, &str)] = &[(HsrProtocol::Hsr, "hsr"), (HsrProtocol::Prp, "prp")];
 
+const OVPN_WORDS: &[(OvpnMode, &str)] = &[(OvpnMode::P2p, "p2p"), (OvpnMode::Mp, "mp")];
+
+const ON_OFF_WORDS: &[(OnOff, &str)] = &[(OnOff::Off, "off"), (OnOff::On, "on")];
+
 #[test]
 fn words(rt: HostRuntime) {
     let alloc = rt.alloc();
@@ -96,6 +101,8 @@ fn words(rt: HostRuntime) {
     check_words(&rt, alloc, Family::Vlan, VLAN_PROTOCOL_WORDS);
     check_words(&rt, alloc, Family::Tun, TUN_WORDS);
     check_words(&rt, alloc, Family::Hsr, HSR_WORDS);
+    check_words(&rt, alloc, Family::Ovpn, OVPN_WORDS);
+    check_words(&rt, alloc, Family::Bond, ON_OFF_WORDS);
     let rejected = Err(decode_error(Family::Netkit, 0, Cause::Word));
     assert_is(&rt, "l3s", NetkitMode::from_str("l3s"), rejected);
 }
@@ -163,4 +170,6 @@ fn texts(rt: HostRuntime) {
     check_texts(&rt, alloc, &[(VlanProtocol::Other(0x8847), "34887")]);
     check_texts(&rt, alloc, &[(TunType::Other(3), "3")]);
     check_texts(&rt, alloc, &[(HsrProtocol::Other(2), "2")]);
+    check_texts(&rt, alloc, &[(OvpnMode::Other(2), "2")]);
+    check_texts(&rt, alloc, &[(OnOff::Other(2), "2")]);
 }

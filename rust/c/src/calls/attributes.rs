@@ -2,10 +2,12 @@
 
 //! The attributes in data, written into an array of the caller.
 
-use crate::calls::codes::{kind_of_code, port_kind_of_code, shape_code};
+use crate::calls::codes::{
+    V4_LIST, V6_LIST, family_of_list, kind_of_code, port_kind_of_code, shape_code,
+};
 use crate::calls::error::{NO_ERROR, error_record};
 use crate::calls::items::{LinkinfoListResult, write_at};
-use linkinfo::layers::link::families::{Datum, Shape, read_datum, table_shape};
+use linkinfo::layers::link::families::{Datum, Shape, read_datum, typed_shape};
 use linkinfo::layers::link::{
     DataFamily, DeviceFamily, Family, KindTag, LowerFamily, NlaBuffer, NlasIterator, PeeredFamily,
     PortFamily, TunnelFamily, family_of, port_family_of,
@@ -31,16 +33,42 @@ pub struct LinkinfoAttribute {
     pub is_number: bool,
 }
 
-/// The family of the attributes in data of a kind, or in port data of a port kind, by the kind's
-/// code. It is `None` if the data is opaque bytes.
-fn family_inside(kind: u16) -> Option<Family> {
-    match kind_of_code(kind) {
-        Some(tag) => data_name(family_of(tag)),
-        None => match port_kind_of_code(kind) {
-            Some(tag) => port_data_name(port_family_of(tag)),
-            None => None,
+/// What the attributes in a payload are.
+#[derive(Clone, Copy)]
+pub(crate) enum Contents {
+    /// Attributes of a family, in data of a kind of links if that is known.
+    Attributes(Family, Option<KindTag>),
+    /// The elements of a list of addresses, whatever their types: the shape of each.
+    Addresses(Shape),
+}
+
+/// The attributes in data of a kind, in port data of a port kind, or in a list in data, by the code
+/// of the kind or of the list. It is `None` if the data is opaque bytes.
+fn contents_inside(code: u16) -> Option<Contents> {
+    match kind_of_code(code) {
+        Some(tag) => of_family(data_name(family_of(tag)), Some(tag)),
+        None => match port_kind_of_code(code) {
+            Some(tag) => of_family(port_data_name(port_family_of(tag)), None),
+            None => contents_of_list(code),
         },
     }
+}
+
+/// The attributes in a list in data, by its code.
+fn contents_of_list(code: u16) -> Option<Contents> {
+    if code == V4_LIST {
+        Some(Contents::Addresses(Shape::V4))
+    } else if code == V6_LIST {
+        Some(Contents::Addresses(Shape::V6))
+    } else {
+        of_family(family_of_list(code), None)
+    }
+}
+
+/// Attributes of a family, if there is one, in data of a kind of links if that is known.
+fn of_family(family: Option<Family>, kind: Option<KindTag>) -> Option<Contents> {
+    let family = family?;
+    Some(Contents::Attributes(family, kind))
 }
 
 fn data_name(family: DataFamily) -> Option<Family> {
@@ -133,10 +161,18 @@ fn flags_shape(kind: Option<KindTag>) -> Option<Shape> {
 }
 
 /// The shape of a type without flag bits, in a family and under a kind.
-fn shape_in(family: Family, kind: Option<KindTag>, masked: u16) -> Option<Shape> {
+fn shape_of_family(family: Family, kind: Option<KindTag>, masked: u16) -> Option<Shape> {
     match family {
         Family::IpTunnel if masked == IFLA_IPTUN_FLAGS => flags_shape(kind),
-        _ => table_shape(family, masked),
+        _ => typed_shape(family, masked),
+    }
+}
+
+/// The shape of a type without flag bits among these attributes.
+fn shape_in(contents: Contents, masked: u16) -> Option<Shape> {
+    match contents {
+        Contents::Attributes(family, kind) => shape_of_family(family, kind, masked),
+        Contents::Addresses(shape) => Some(shape),
     }
 }
 
@@ -178,12 +214,10 @@ impl AttributeRecord for LinkinfoAttribute {
     }
 }
 
-/// Writes the attributes of a payload, as those of a family under a kind, into the array: as many
-/// as it has room for.
+/// Writes the attributes of a payload into the array: as many as it has room for.
 fn write_attributes<R: AttributeRecord>(
     bytes: &[u8],
-    family: Family,
-    kind: Option<KindTag>,
+    contents: Contents,
     records: &mut [R],
 ) -> LinkinfoListResult {
     let mut nlas = NlasIterator::new(bytes);
@@ -192,7 +226,7 @@ fn write_attributes<R: AttributeRecord>(
     while let Some(next) = nlas.next() {
         match next {
             Ok(nla) => {
-                let shape = shape_in(family, kind, nla.kind());
+                let shape = shape_in(contents, nla.kind());
                 write_at(records, count, R::of_attribute(place, shape, &nla));
                 count = nlas.examined();
                 place = nlas.place();
@@ -213,16 +247,16 @@ fn write_attributes<R: AttributeRecord>(
     }
 }
 
-/// Writes the attributes in data of a kind, or in port data of a port kind, into the array: as many
-/// as it has room for, up to the first without an accepted header. There are none if such data is
-/// opaque bytes, and none for a number that is no kind and no port kind.
+/// Writes the attributes in data of a kind, in port data of a port kind, or in a list in data, into
+/// the array: as many as it has room for, up to the first without an accepted header. There are
+/// none if such data is opaque bytes, and none for a number of no kind and no list.
 pub(crate) fn write_inside<R: AttributeRecord>(
     bytes: &[u8],
     kind: u16,
     records: &mut [R],
 ) -> LinkinfoListResult {
-    match family_inside(kind) {
-        Some(family) => write_attributes(bytes, family, kind_of_code(kind), records),
+    match contents_inside(kind) {
+        Some(contents) => write_attributes(bytes, contents, records),
         None => LinkinfoListResult {
             error: NO_ERROR,
             place: 0,
@@ -231,9 +265,9 @@ pub(crate) fn write_inside<R: AttributeRecord>(
     }
 }
 
-/// Writes the attributes in data of a kind, or in port data of a port kind, into the array: as many
-/// as it has room for, up to the first without an accepted header. There are none if such data is
-/// opaque bytes, and none for a number that is no kind and no port kind.
+/// Writes the attributes in data of a kind, in port data of a port kind, or in a list in data, into
+/// the array: as many as it has room for, up to the first without an accepted header. There are
+/// none if such data is opaque bytes, and none for a number of no kind and no list.
 pub fn linkinfo_attributes(
     bytes: &[u8],
     kind: u16,

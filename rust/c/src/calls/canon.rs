@@ -3,7 +3,9 @@
 //! Canonical encodings, written into a buffer of the caller.
 
 use crate::calls::error::{LinkinfoError, NO_ERROR, error_record};
-use linkinfo::layers::link::{CanonIntoError, canon_into};
+use linkinfo::layers::link::families::DataLayer;
+use linkinfo::layers::link::typed::Typed;
+use linkinfo::layers::link::{Bytes, CanonIntoError, canon_into_of};
 
 /// The values of `enum linkinfo_canon_status`, from `LINKINFO_CANON_WRITTEN` on.
 const WRITTEN: u32 = 0;
@@ -28,11 +30,11 @@ pub struct LinkinfoCanon {
     pub length: usize,
 }
 
-/// Writes the canonical encoding of a list to the front of the buffer, if there is one and the
-/// buffer has room for it. The bytes after it are unchanged, and without an encoding the whole
-/// buffer is.
-pub fn linkinfo_canon(bytes: &[u8], buffer: &mut [u8]) -> LinkinfoCanon {
-    match canon_into(bytes, buffer) {
+/// Writes the canonical encoding of a list over a layer to the front of the buffer, if there is one
+/// and the buffer has room for it. The bytes after it are unchanged, and without an encoding the
+/// whole buffer is.
+fn canonical<P: DataLayer>(bytes: &[u8], buffer: &mut [u8]) -> LinkinfoCanon {
+    match canon_into_of::<P>(bytes, buffer) {
         Ok(length) => LinkinfoCanon {
             error: NO_ERROR,
             status: WRITTEN,
@@ -54,4 +56,17 @@ pub fn linkinfo_canon(bytes: &[u8], buffer: &mut [u8]) -> LinkinfoCanon {
             length: needed,
         },
     }
+}
+
+/// Writes the canonical encoding of a list to the front of the buffer, if there is one and the
+/// buffer has room for it. The bytes after it are unchanged, and without an encoding the whole
+/// buffer is.
+pub fn linkinfo_canon(bytes: &[u8], buffer: &mut [u8]) -> LinkinfoCanon {
+    canonical::<Typed<Bytes>>(bytes, buffer)
+}
+
+/// Does what `linkinfo_canon` does, over the layer that keeps attributes of bonds, bridges and
+/// their like verbatim.
+pub fn linkinfo_canon_opaque(bytes: &[u8], buffer: &mut [u8]) -> LinkinfoCanon {
+    canonical::<Bytes>(bytes, buffer)
 }

@@ -3,7 +3,11 @@
 //! Lists validated, compared, and their headers counted.
 
 use crate::calls::error::{LinkinfoError, NO_ERROR, error_or_none, error_record};
-use linkinfo::layers::link::{ErrorIn, HeaderCount, check, check_at, check_counted, same_at};
+use linkinfo::layers::link::families::DataLayer;
+use linkinfo::layers::link::typed::{self, Typed};
+use linkinfo::layers::link::{
+    Bytes, DecodeError, ErrorIn, HeaderCount, check_at_of, check_counted_of, same_at_of,
+};
 
 /// `struct linkinfo_same_result`: whether two lists are equivalent.
 #[repr(C)]
@@ -57,13 +61,13 @@ pub struct LinkinfoInnerError {
 /// Validates a list: returns its first error in byte order, or none.
 #[must_use]
 pub fn linkinfo_check(bytes: &[u8]) -> LinkinfoError {
-    error_or_none(check(bytes))
+    error_or_none(typed::check(bytes))
 }
 
 /// Validates a list, and returns the offset of its error too.
 #[must_use]
 pub fn linkinfo_check_at(bytes: &[u8]) -> LinkinfoErrorAt {
-    match check_at(bytes) {
+    match typed::check_at(bytes) {
         Ok(()) => LinkinfoErrorAt {
             error: NO_ERROR,
             place: 0,
@@ -75,10 +79,9 @@ pub fn linkinfo_check_at(bytes: &[u8]) -> LinkinfoErrorAt {
     }
 }
 
-/// Validates a list, and returns the offset of the innermost attribute with the error too.
-#[must_use]
-pub fn linkinfo_check_inner(bytes: &[u8]) -> LinkinfoInnerError {
-    match check_at(bytes) {
+/// Validates a list over a layer, and returns the offsets of its error too.
+fn inner_error<P: DataLayer>(bytes: &[u8]) -> LinkinfoInnerError {
+    match check_at_of::<P>(bytes) {
         Ok(()) => LinkinfoInnerError {
             error: NO_ERROR,
             place: 0,
@@ -92,27 +95,53 @@ pub fn linkinfo_check_inner(bytes: &[u8]) -> LinkinfoInnerError {
     }
 }
 
-/// Returns whether two lists are equivalent. The error is that of the first list, otherwise that of
-/// the second.
+/// Validates a list, and returns the offset of the innermost attribute with the error too.
 #[must_use]
-pub fn linkinfo_same(a: &[u8], b: &[u8]) -> LinkinfoSame {
-    match same_at(a, b) {
+pub fn linkinfo_check_inner(bytes: &[u8]) -> LinkinfoInnerError {
+    inner_error::<Typed<Bytes>>(bytes)
+}
+
+/// Validates a list as `linkinfo_check_inner` does, over the layer that keeps attributes of bonds,
+/// bridges and their like verbatim.
+#[must_use]
+pub fn linkinfo_check_inner_opaque(bytes: &[u8]) -> LinkinfoInnerError {
+    inner_error::<Bytes>(bytes)
+}
+
+/// The record of an error of one of two lists.
+fn rejected(list: u32, error: DecodeError) -> LinkinfoSame {
+    LinkinfoSame {
+        error: error_record(error),
+        rejected: list,
+        same: false,
+    }
+}
+
+/// The record of a result of `same_at`.
+fn same_record(answer: Result<bool, ErrorIn>) -> LinkinfoSame {
+    match answer {
         Ok(same) => LinkinfoSame {
             error: NO_ERROR,
             rejected: 0,
             same,
         },
-        Err(ErrorIn::First(error)) => LinkinfoSame {
-            error: error_record(error),
-            rejected: 1,
-            same: false,
-        },
-        Err(ErrorIn::Second(error)) => LinkinfoSame {
-            error: error_record(error),
-            rejected: 2,
-            same: false,
-        },
+        Err(ErrorIn::First(error)) => rejected(1, error),
+        Err(ErrorIn::Second(error)) => rejected(2, error),
     }
+}
+
+/// Returns whether two lists are equivalent. The error is that of the first list, otherwise that of
+/// the second.
+#[must_use]
+pub fn linkinfo_same(a: &[u8], b: &[u8]) -> LinkinfoSame {
+    same_record(same_at_of::<Typed<Bytes>>(a, b))
+}
+
+/// Returns what `linkinfo_same` does, over the layer that keeps attributes of bonds, bridges and
+/// their like verbatim.
+#[must_use]
+pub fn linkinfo_same_opaque(a: &[u8], b: &[u8]) -> LinkinfoSame {
+    same_record(same_at_of::<Bytes>(a, b))
 }
 
 /// Validates a list, and counts the headers examined up to its error: at most a quarter of its
@@ -120,7 +149,7 @@ pub fn linkinfo_same(a: &[u8], b: &[u8]) -> LinkinfoSame {
 #[must_use]
 pub fn linkinfo_count(bytes: &[u8]) -> LinkinfoCount {
     let mut count = HeaderCount::new();
-    let error = error_or_none(check_counted(bytes, &mut count));
+    let error = error_or_none(check_counted_of::<Typed<Bytes>>(bytes, &mut count));
     LinkinfoCount {
         error,
         count: count.get(),

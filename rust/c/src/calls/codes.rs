@@ -1,6 +1,6 @@
 // @generated from crates/linkinfo_c/src/codes.rt by rust/c/translate.
 
-//! The numbers by which C knows families, causes, kinds, port kinds and shapes.
+//! The numbers by which C knows families, causes, kinds, port kinds, lists in data and shapes.
 
 use linkinfo::layers::link::families::Shape;
 use linkinfo::layers::link::{Cause, Family, KindTag, PortTag};
@@ -69,6 +69,8 @@ macro_rules! families {
             CanTdc = 41,
             CanCtrlModeExt = 42,
             CanPwm = 43,
+            Ovpn = 44,
+            Ppp = 45,
             // End: written by tables/generate.
         }
     };
@@ -174,6 +176,43 @@ pub(crate) fn port_kind_code(kind: PortTag) -> u16 {
 /// The port kind of a code, or `None` if no port kind has it.
 pub(crate) fn port_kind_of_code(code: u16) -> Option<PortTag> {
     port_kinds!(code of_code)
+}
+
+/// The code of lists of IPv4 addresses.
+pub(crate) const V4_LIST: u16 = 512;
+
+/// The code of lists of IPv6 addresses.
+pub(crate) const V6_LIST: u16 = 513;
+
+/// The code of lists of a family, which is 512 more than that of the family. It is 0 for a family
+/// of which no other one has lists.
+pub(crate) fn list_code(family: Family) -> u16 {
+    match family {
+        // Begin: written by tables/generate from tables/families (lists).
+        Family::VlanQosMapping => 550,
+        Family::BondAdInfo => 551,
+        Family::BridgeQuerierState => 552,
+        Family::CanTdc => 553,
+        Family::CanCtrlModeExt => 554,
+        Family::CanPwm => 555,
+        // End: written by tables/generate.
+        _ => 0,
+    }
+}
+
+/// The family of the lists of a code, or `None` if no such lists have it.
+pub(crate) fn family_of_list(code: u16) -> Option<Family> {
+    match code {
+        // Begin: written by tables/generate from tables/families (of lists).
+        550 => Some(Family::VlanQosMapping),
+        551 => Some(Family::BondAdInfo),
+        552 => Some(Family::BridgeQuerierState),
+        553 => Some(Family::CanTdc),
+        554 => Some(Family::CanCtrlModeExt),
+        555 => Some(Family::CanPwm),
+        // End: written by tables/generate.
+        _ => None,
+    }
 }
 
 /// The cause of a number, as `Cause::number` gives it, or `None` if no cause has it.

@@ -4,7 +4,7 @@
 
 use crate::calls::codes::family_code;
 use crate::calls::error::{LinkinfoError, NO_ERROR, error_record};
-use linkinfo::layers::link::{DecodeError, Difference, ErrorIn, first_difference};
+use linkinfo::layers::link::{DecodeError, Difference, ErrorIn, first_difference, typed};
 
 /// `struct linkinfo_difference`: whether two lists are equivalent, and the first pair of attributes
 /// in which they differ.
@@ -85,5 +85,12 @@ fn difference_record(answer: Result<Option<Difference>, ErrorIn>) -> LinkinfoDif
 /// Returns whether two lists are equivalent, or the first pair of attributes in which they differ.
 #[must_use]
 pub fn linkinfo_first_difference(a: &[u8], b: &[u8]) -> LinkinfoDifference {
+    difference_record(typed::first_difference(a, b))
+}
+
+/// Returns what `linkinfo_first_difference` does, over the layer that keeps attributes of bonds,
+/// bridges and their like verbatim.
+#[must_use]
+pub fn linkinfo_first_difference_opaque(a: &[u8], b: &[u8]) -> LinkinfoDifference {
     difference_record(first_difference(a, b))
 }

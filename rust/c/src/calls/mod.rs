@@ -12,4 +12,5 @@ pub mod error;
 pub mod items;
 pub mod texts;
 pub mod unmet;
+pub mod usage;
 pub mod values;

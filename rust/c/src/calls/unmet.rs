@@ -4,7 +4,7 @@
 
 use crate::calls::codes::family_code;
 use crate::calls::error::{LinkinfoError, NO_ERROR, error_record};
-use linkinfo::layers::link::{DecodeError, ErrorIn, Unmet, first_unmet};
+use linkinfo::layers::link::{DecodeError, ErrorIn, Unmet, first_unmet, typed};
 
 /// `struct linkinfo_unmet`: whether a link has all attributes of a request, and the first one that
 /// it lacks.
@@ -81,5 +81,12 @@ fn unmet_record(answer: Result<Option<Unmet>, ErrorIn>) -> LinkinfoUnmet {
 /// one that it lacks.
 #[must_use]
 pub fn linkinfo_first_unmet(have: &[u8], want: &[u8]) -> LinkinfoUnmet {
+    unmet_record(typed::first_unmet(have, want))
+}
+
+/// Returns what `linkinfo_first_unmet` does, over the layer that keeps attributes of bonds, bridges
+/// and their like verbatim.
+#[must_use]
+pub fn linkinfo_first_unmet_opaque(have: &[u8], want: &[u8]) -> LinkinfoUnmet {
     unmet_record(first_unmet(have, want))
 }

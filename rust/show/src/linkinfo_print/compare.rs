@@ -90,7 +90,7 @@ fn whole_json(nla: &NlaBuffer<'_>) -> Result<Value, AllocError> {
     match member_name(item.raw_kind & TYPE_MASK) {
         Some(name) => {
             let mut members = Map::new();
-            put(&mut members, name, item_json(&item)?)?;
+            put(&mut members, name, item_json(&item, None)?)?;
             Ok(Value::Object(members))
         }
         None => other_json(&item),

@@ -63,6 +63,23 @@ pub fn port_table_of(tag: PortTag) -> Option<Table> {
     table_in(PayloadFamily::<Bytes>::listing(family))
 }
 
+/// The rows of the data that follows an attribute, by the name of its kind: those of the last name,
+/// of a kind that the library keeps as bytes.
+fn named_after(named: Option<Table>, item: &LinkInfoItem<'_>) -> Option<Table> {
+    match item.raw_kind & TYPE_MASK {
+        IFLA_INFO_KIND => Table::of_other(without_nul(item.value)),
+        _ => named,
+    }
+}
+
+/// The rows of a kind's family, or if it has none those of the kind's name.
+fn rows_or(rows: Option<Table>, named: Option<Table>) -> Option<Table> {
+    match rows {
+        Some(table) => Some(table),
+        None => named,
+    }
+}
+
 /// Data by its rows, or in hex.
 fn rows_json(table: Option<Table>, payload: &[u8]) -> Result<Value, AllocError> {
     match table {
@@ -77,12 +94,15 @@ fn name_json(payload: &[u8]) -> Result<Value, AllocError> {
 }
 
 /// The value of an attribute of a list, by its role under the current kinds: a name is a text, data
-/// is shown by its rows, and all else is hex.
-pub(crate) fn item_json(item: &LinkInfoItem<'_>) -> Result<Value, AllocError> {
+/// is shown by its rows, those by the kind's name among them, and all else is hex.
+pub(crate) fn item_json(
+    item: &LinkInfoItem<'_>,
+    named: Option<Table>,
+) -> Result<Value, AllocError> {
     match item.raw_kind & TYPE_MASK {
         IFLA_INFO_KIND | IFLA_INFO_SLAVE_KIND => name_json(item.value),
         IFLA_INFO_DATA => match item.kind_tag {
-            Some(tag) => rows_json(table_of(tag), item.value),
+            Some(tag) => rows_json(rows_or(table_of(tag), named), item.value),
             None => hex_json(item.value),
         },
         IFLA_INFO_SLAVE_DATA => match item.port_tag {
@@ -156,6 +176,8 @@ pub(crate) fn other_json(item: &LinkInfoItem<'_>) -> Result<Value, AllocError> {
 struct Shown {
     members: Map<String, Value>,
     others: Vec<Value>,
+    /// The rows of the data that comes, by the name of its kind.
+    named: Option<Table>,
 }
 
 impl Shown {
@@ -163,14 +185,17 @@ impl Shown {
         Shown {
             members: Map::new(),
             others: Vec::new(),
+            named: None,
         }
     }
 
     /// Adds an attribute: as a member of this name, or to the others.
     fn push(&mut self, name: Option<&str>, item: &LinkInfoItem<'_>) -> Result<(), AllocError> {
+        let named = self.named;
+        self.named = named_after(named, item);
         match name {
             Some(name) => {
-                let value = item_json(item)?;
+                let value = item_json(item, named)?;
                 put(&mut self.members, name, value)
             }
             None => push(&mut self.others, other_json(item)?),
@@ -182,6 +207,7 @@ impl Shown {
         let Shown {
             mut members,
             others,
+            ..
         } = self;
         if others.is_empty() {
             return Ok(Value::Object(members));

@@ -275,6 +275,15 @@ fn put_names(
     put(map, names.1, number_json(numbers.1)?)
 }
 
+/// Puts a number, and the names of the flags of its low eight bits.
+fn put_state(name: &str, number: u64, map: &mut Map<String, Value>) -> Result<(), AllocError> {
+    put(map, name, Value::from(number))?;
+    let mut names_name = String::try_from_text(name)?;
+    names_name.try_push_str("_str")?;
+    let names = names_json(Flags::LacpState, number % 256)?;
+    put(map, names_name.as_str(), names)
+}
+
 /// The name of an address: one for multicast addresses, and another.
 fn group_name<'a>(payload: &[u8], name: &'a str, other: &'a str) -> &'a str {
     if is_multicast(payload) { name } else { other }
@@ -320,6 +329,8 @@ fn put_formatted<N: Nesting>(
             let numbers = (second_of(datum), first_of(datum));
             put_names(flags, (name, "ctrlmode_mask"), numbers, map)
         }
+        Format::FlagNames(flags) => put(map, name, names_json(flags, first_of(datum))?),
+        Format::LacpState => put_state(name, first_of(datum), map),
         Format::List(elements) => put(map, name, elements_json(elements, payload)?),
         Format::Nested(family) => put(map, name, N::nested_json(Table::Family(family), payload)?),
         format => put(map, name, format_json(format, datum, payload)?),

@@ -6,8 +6,8 @@
 use crate::linkinfo_view::entries::{
     AMT, BARE_UDP, BAT_ADV, BOND, BOND_AD_INFO, BOND_PORT, BRIDGE, BRIDGE_PORT,
     BRIDGE_QUERIER_STATE, CAN, CAN_CTRL_MODE_EXT, CAN_PWM, CAN_TDC, DSA, Entry, GENEVE, GRE, GRE6,
-    GTP, HSR, IP_TUNNEL, IP_VLAN, IP6_TUNNEL, IPOIB, MAC_SEC, MAC_VLAN, NETKIT, RM_NET, SIT, TUN,
-    TUNNEL, VETH, VLAN, VRF, VTI, VXLAN, WWAN, XFRM,
+    GTP, HSR, IP_TUNNEL, IP_VLAN, IP6_TUNNEL, IPOIB, MAC_SEC, MAC_VLAN, NETKIT, OVPN, PPP, RM_NET,
+    SIT, TUN, TUNNEL, VETH, VLAN, VRF, VTI, VXLAN, WWAN, XFRM,
 };
 // End: written by tables/generate.
 use crate::linkinfo_view::format::{Row, Table};
@@ -90,6 +90,8 @@ fn family_rows(family: Family) -> &'static [Entry] {
         Family::CanTdc => CAN_TDC,
         Family::CanCtrlModeExt => CAN_CTRL_MODE_EXT,
         Family::CanPwm => CAN_PWM,
+        Family::Ovpn => OVPN,
+        Family::Ppp => PPP,
         // End: written by tables/generate.
         Family::Frame
         | Family::LinkInfo

@@ -4,7 +4,7 @@
 
 use crate::compat::AllocError;
 use crate::compat::calls::*;
-use crate::compat::serde_json::{Map, Value, put};
+use crate::compat::serde_json::{Map, Value, push, put};
 use crate::linkinfo_view::format::{Format, Words};
 use crate::linkinfo_view::text::{
     bridge_id_json, escaped_json, four_digits_json, hex_json, hex_or_zero_json, ipv4_json,
@@ -159,6 +159,79 @@ fn bit_timing_json(payload: &[u8]) -> Result<Value, AllocError> {
     Ok(Value::Object(map))
 }
 
+/// The bytes before the first NUL.
+fn before_nul(bytes: &[u8]) -> &[u8] {
+    match memchr::memchr(0, bytes) {
+        Some(end) => &bytes[..end],
+        None => bytes,
+    }
+}
+
+/// Puts a limit: its least and its greatest number.
+fn put_limit(
+    name: &str,
+    least: u32,
+    greatest: u32,
+    map: &mut Map<String, Value>,
+) -> Result<(), AllocError> {
+    put(map, name, pair_json("min", least, "max", greatest)?)
+}
+
+/// The name and the limits of a `struct can_bittiming_const`.
+fn bit_timing_const_json(payload: &[u8]) -> Result<Value, AllocError> {
+    if payload.len() != 48 {
+        return hex_json(payload);
+    }
+    let mut map = Map::new();
+    put(&mut map, "name", escaped_json(before_nul(&payload[..16]))?)?;
+    put_limit(
+        "tseg1",
+        number_at(payload, 16),
+        number_at(payload, 20),
+        &mut map,
+    )?;
+    put_limit(
+        "tseg2",
+        number_at(payload, 24),
+        number_at(payload, 28),
+        &mut map,
+    )?;
+    put_limit("sjw", 1, number_at(payload, 32), &mut map)?;
+    put_limit(
+        "brp",
+        number_at(payload, 36),
+        number_at(payload, 40),
+        &mut map,
+    )?;
+    put(&mut map, "brp_inc", Value::from(number_at(payload, 44)))?;
+    Ok(Value::Object(map))
+}
+
+/// The two numbers of a `struct can_berr_counter`.
+fn error_counters_json(payload: &[u8]) -> Result<Value, AllocError> {
+    if payload.len() != 4 {
+        return hex_json(payload);
+    }
+    let sent = u16::from_le_bytes([payload[0], payload[1]]);
+    let received = u16::from_le_bytes([payload[2], payload[3]]);
+    pair_json("tx", u32::from(sent), "rx", u32::from(received))
+}
+
+/// The parts of a payload, each of so many bytes and shown by a shape, as an array.
+fn array_json(width: usize, shape: Shape, payload: &[u8]) -> Result<Value, AllocError> {
+    if payload.len() % width != 0 {
+        return hex_json(payload);
+    }
+    let mut items = Vec::new();
+    let mut rest = payload;
+    while !rest.is_empty() {
+        let (part, after) = rest.split_at(width);
+        push(&mut items, json_as(shape, part)?)?;
+        rest = after;
+    }
+    Ok(Value::Array(items))
+}
+
 /// A number as a boolean if it is 0 or 1, else as the number.
 fn switch_json(number: u64) -> Value {
     match number {
@@ -184,6 +257,10 @@ pub fn format_json(format: Format, datum: &Datum<'_>, payload: &[u8]) -> Result<
         Format::Address => address_json(datum, payload),
         Format::BridgeId => bridge_json(payload),
         Format::BitTiming => bit_timing_json(payload),
+        Format::BitTimingConst => bit_timing_const_json(payload),
+        Format::ErrorCounters => error_counters_json(payload),
+        Format::Le16s => array_json(2, Shape::Le16, payload),
+        Format::Le32s => array_json(4, Shape::Le32, payload),
         _ => plain_json(datum),
     }
 }

@@ -44,6 +44,7 @@ pub fn word(words: Words, number: u64) -> Option<&'static str> {
         Words::NetkitPolicy => netkit_policy(number),
         Words::NetkitScrub => netkit_scrub(number),
         Words::OffOn => off_on(number),
+        Words::OvpnMode => ovpn_mode(number),
         Words::PrimaryReselect => primary_reselect(number),
         Words::StpMode => stp_mode(number),
         Words::TransmitHash => transmit_hash(number),
@@ -354,6 +355,15 @@ fn off_on(number: u64) -> Option<&'static str> {
     }
 }
 
+/// `IFLA_OVPN_MODE`.
+fn ovpn_mode(number: u64) -> Option<&'static str> {
+    match number {
+        0 => Some("p2p"),
+        1 => Some("mp"),
+        _ => None,
+    }
+}
+
 /// `IFLA_BOND_PRIMARY_RESELECT`.
 fn primary_reselect(number: u64) -> Option<&'static str> {
     match number {
@@ -437,6 +447,7 @@ pub fn flag_at(flags: Flags, place: u32) -> Option<Flag> {
         Flags::GroupForward => group_forward_flag(place),
         Flags::Ip6Tunnel => ip6_tunnel_flag(place),
         Flags::IpVlan => ip_vlan_flag(place),
+        Flags::LacpState => lacp_state_flag(place),
         Flags::MacVlan => mac_vlan_flag(place),
         Flags::RmNet => rm_net_flag(place),
         Flags::Sit => sit_flag(place),
@@ -465,7 +476,7 @@ fn bridge_options_flag(place: u32) -> Option<Flag> {
     }
 }
 
-/// `IFLA_CAN_CTRLMODE`.
+/// `IFLA_CAN_CTRLMODE`, `IFLA_CAN_CTRLMODE_SUPPORTED`.
 fn can_flag(place: u32) -> Option<Flag> {
     flag! { place;
         (0, 0x1, 0x1, "LOOPBACK"),
@@ -555,6 +566,20 @@ fn ip_vlan_flag(place: u32) -> Option<Flag> {
         (0, 0x1, 0x1, "private"),
         (1, 0x2, 0x2, "vepa"),
         (2, 0x3, 0x0, "bridge"),
+    }
+}
+
+/// `IFLA_BOND_SLAVE_AD_ACTOR_OPER_PORT_STATE`, `IFLA_BOND_SLAVE_AD_PARTNER_OPER_PORT_STATE`.
+fn lacp_state_flag(place: u32) -> Option<Flag> {
+    flag! { place;
+        (0, 0x1, 0x1, "active"),
+        (1, 0x2, 0x2, "short_timeout"),
+        (2, 0x4, 0x4, "aggregating"),
+        (3, 0x8, 0x8, "in_sync"),
+        (4, 0x10, 0x10, "collecting"),
+        (5, 0x20, 0x20, "distributing"),
+        (6, 0x40, 0x40, "defaulted"),
+        (7, 0x80, 0x80, "expired"),
     }
 }
 

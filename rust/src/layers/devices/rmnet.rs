@@ -61,18 +61,18 @@ impl RowFamily for InfoRmNet {
     }
 }
 
-/// Makes flags and their mask from two numbers.
+/// Makes both sets of their numbers.
 fn flags_of(pair: (u32, u32)) -> InfoRmNetFlags {
     let (flags, mask) = pair;
-    InfoRmNetFlags::new(
-        RmNetFlags::from_bits_retain(flags),
-        RmNetFlags::from_bits_retain(mask),
-    )
+    InfoRmNetFlags {
+        flags: RmNetFlags::from_bits_retain(flags),
+        mask: RmNetFlags::from_bits_retain(mask),
+    }
 }
 
-/// The two numbers of flags and their mask.
-fn pair_of(under: InfoRmNetFlags) -> (u32, u32) {
-    (under.flags.bits(), under.mask.bits())
+/// The numbers of both sets.
+fn pair_of(sets: InfoRmNetFlags) -> (u32, u32) {
+    (sets.flags.bits(), sets.mask.bits())
 }
 
 impl TableFamily for InfoRmNet {

@@ -24,7 +24,7 @@ mod xstats;
 
 // Lists: parsed, serialized, validated and compared.
 pub use crate::layers::data::{InfoData, InfoDataOf, InfoPortData, InfoPortDataOf};
-pub use crate::layers::names::{Explanation, attribute_name};
+pub use crate::layers::names::{AttributeUse, Explanation, attribute_name, attribute_use};
 pub use crate::layers::nla_frame::{
     Bytes, Cause, DecodeError, DefaultNla, Emitable, ExactEq, Family, HeaderCount, Nla, Nlas,
     Parseable, ParseableParametrized, Text, ToVecError, emit_nlas, is_equal, nlas_buffer_len,
@@ -61,14 +61,14 @@ pub use crate::layers::devices::{InfoIpVlanOf, InfoVrfPort};
 pub use crate::layers::numbers::{
     AmtMode, BondAdSelect, BondAllPortActive, BondArpAllTargets, BondArpValidate, BondFailOverMac,
     BondLacpRate, BondMode, BondPortState, BondPrimaryReselect, BondXmitHashPolicy,
-    BridgeBooleanOptionFlags, BridgeMulticastRouterType, BridgePortState, BridgeStpMode,
-    BridgeStpState, CanCtrlModeFlags, CanState, ChurnState, ErSpanDir, EthernetProtocol, GeneveDf,
-    GreEncapFlags, GreEncapType, GreIOFlags, GtpRole, HsrProtocol, InfoRmNetFlags, Ip6TunnelFlags,
-    IpProtocol, IpVlanFlags, IpVlanMode, IpVtapFlags, IpVtapMode, IpoibMode, LacpState,
-    LacpState16, MacSecCipherId, MacSecOffload, MacSecValidate, MacVlanFlags,
-    MacVlanMacAddressMode, MacVlanMode, MacVtapFlags, MacVtapMacAddressMode, MacVtapMode,
-    MiiStatus, NetkitMode, NetkitPolicy, NetkitScrub, OnOff, RmNetFlags, TunType, TunnelEncapFlags,
-    TunnelEncapType, VlanFlags, VlanProtocol, VxlanDf,
+    BridgeBooleanOptionFlags, BridgeBooleanOptions, BridgeMulticastRouterType, BridgePortState,
+    BridgeStpMode, BridgeStpState, CanClock, CanCtrlMode, CanCtrlModeFlags, CanState, ChurnState,
+    ErSpanDir, EthernetProtocol, GeneveDf, GreEncapFlags, GreEncapType, GreIOFlags, GtpRole,
+    HsrProtocol, InfoRmNetFlags, Ip6TunnelFlags, IpProtocol, IpVlanFlags, IpVlanMode, IpVtapFlags,
+    IpVtapMode, IpoibMode, LacpState, LacpState16, MacSecCipherId, MacSecOffload, MacSecValidate,
+    MacVlanFlags, MacVlanMacAddressMode, MacVlanMode, MacVtapFlags, MacVtapMacAddressMode,
+    MacVtapMode, MiiStatus, NetkitMode, NetkitPolicy, NetkitScrub, OnOff, OvpnMode, RmNetFlags,
+    TunType, TunnelEncapFlags, TunnelEncapType, VlanFlags, VlanProtocol, VxlanDf,
 };
 // End: written by tables/generate.
 // Begin: written by tables/generate from tables/kinds (peered).

@@ -38,7 +38,8 @@ pub use crate::layers::payloads::{
 };
 pub use crate::layers::typed::{
     BondAdInfo, BridgeQuerierState, CanCtrlModeExt, CanPwm, CanTdc, InfoBond, InfoBondPort,
-    InfoBridge, InfoBridgePort, InfoCan, InfoDsa, InfoHsr, InfoTun, InfoVlan, VlanQosMapping,
+    InfoBridge, InfoBridgePort, InfoCan, InfoDsa, InfoHsr, InfoOvpn, InfoPpp, InfoTun, InfoVlan,
+    VlanQosMapping,
 };
 use alloc::vec::Vec;
 

@@ -4,19 +4,21 @@
 
 // Begin: written by tables/generate from tables/families (imports).
 use crate::layers::names::entries::{
-    AMT, BARE_UDP, BAT_ADV, Entry, GENEVE, GRE, GRE6, GTP, IP_TUNNEL, IP_VLAN, IPOIB, LINK_INFO,
-    MAC_SEC, MAC_VLAN, NETKIT, RM_NET, VETH, VRF, VTI, VXCAN, VXLAN, WWAN, XFRM,
+    AMT, BARE_UDP, BAT_ADV, BOND, BOND_AD_INFO, BOND_PORT, BRIDGE, BRIDGE_PORT,
+    BRIDGE_QUERIER_STATE, CAN, CAN_CTRL_MODE_EXT, CAN_PWM, CAN_TDC, DSA, Entry, GENEVE, GRE, GRE6,
+    GTP, HSR, IP_TUNNEL, IP_VLAN, IPOIB, LINK_INFO, MAC_SEC, MAC_VLAN, NETKIT, OVPN, PPP, RM_NET,
+    TUN, VETH, VLAN, VLAN_QOS_MAPPING, VRF, VTI, VXCAN, VXLAN, WWAN, XFRM,
 };
 // End: written by tables/generate.
 use crate::layers::nla_frame::Family;
 
 /// The kernel's name of a type of attributes, as `IFLA_VXLAN_ID`: at most 47 bytes.
 ///
-/// The type is without its two flag bits. `None` if the type has no row in that family, and for
-/// families whose attributes are all opaque. The kernel has one name for attributes of gre and
-/// gre6, of ipvlan and ipvtap, and of macvlan and macvtap. The attribute of a vrf's port, which it
-/// names `IFLA_VRF_PORT_TABLE`, is of the same family and type as `IFLA_VRF_TABLE`, and has that
-/// name here.
+/// The type is without its two flag bits. `None` if the type has no row in that family over the
+/// typed layer, and for families whose attributes are opaque in each layer. The kernel has one name
+/// for attributes of gre and gre6, of ipvlan and ipvtap, and of macvlan and macvtap. The attribute
+/// of a vrf's port, which it names `IFLA_VRF_PORT_TABLE`, is of the same family and type as
+/// `IFLA_VRF_TABLE`, and has that name here.
 #[must_use]
 pub fn attribute_name(family: Family, kind: u16) -> Option<&'static str> {
     name_among(family_names(family), kind)
@@ -58,25 +60,24 @@ fn family_names(family: Family) -> &'static [Entry] {
         Family::Xfrm => XFRM,
         Family::Vti => VTI,
         Family::Vxlan => VXLAN,
-        Family::Frame
-        | Family::Bond
-        | Family::BondPort
-        | Family::Bridge
-        | Family::BridgePort
-        | Family::Can
-        | Family::Dsa
-        | Family::Hsr
-        | Family::Pfcp
-        | Family::TeamPort
-        | Family::Tun
-        | Family::Vlan
-        | Family::Wireguard
-        | Family::VlanQosMapping
-        | Family::BondAdInfo
-        | Family::BridgeQuerierState
-        | Family::CanTdc
-        | Family::CanCtrlModeExt
-        | Family::CanPwm => &[],
+        Family::Bond => BOND,
+        Family::BondPort => BOND_PORT,
+        Family::Bridge => BRIDGE,
+        Family::BridgePort => BRIDGE_PORT,
+        Family::Vlan => VLAN,
+        Family::Can => CAN,
+        Family::Dsa => DSA,
+        Family::Hsr => HSR,
+        Family::Tun => TUN,
+        Family::VlanQosMapping => VLAN_QOS_MAPPING,
+        Family::BondAdInfo => BOND_AD_INFO,
+        Family::BridgeQuerierState => BRIDGE_QUERIER_STATE,
+        Family::CanTdc => CAN_TDC,
+        Family::CanCtrlModeExt => CAN_CTRL_MODE_EXT,
+        Family::CanPwm => CAN_PWM,
+        Family::Ovpn => OVPN,
+        Family::Ppp => PPP,
+        Family::Frame | Family::Pfcp | Family::TeamPort | Family::Wireguard => &[],
         // End: written by tables/generate.
     }
 }

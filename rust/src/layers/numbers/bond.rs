@@ -7,7 +7,9 @@ use crate::layers::nla_frame::{DecodeError, ExactEq, Family};
 use crate::layers::numbers::by_values::{
     number_of_value, value_of_number, value_of_word, write_word,
 };
+use crate::layers::numbers::flag_words::{FlagWords, bits_of_text};
 use crate::layers::numbers::flags::KeepsEveryBit;
+use crate::layers::numbers::word::word_error;
 use bitflags::{Flag, Flags};
 use core::fmt;
 use core::str::FromStr;
@@ -748,6 +750,17 @@ impl LacpState {
         Flag::new("Expired", LacpState::Expired),
         Flag::new("", LacpState(u8::MAX)),
     ];
+
+    const WORDS: &'static [(u32, &'static str)] = &[
+        (0x01, "active"),
+        (0x02, "short_timeout"),
+        (0x04, "aggregating"),
+        (0x08, "in_sync"),
+        (0x10, "collecting"),
+        (0x20, "distributing"),
+        (0x40, "defaulted"),
+        (0x80, "expired"),
+    ];
 }
 
 impl Flags for LacpState {
@@ -765,6 +778,35 @@ impl Flags for LacpState {
 }
 
 impl KeepsEveryBit for LacpState {}
+
+/// Writes the words of the flags, and other bits in hex, with commas between them; of the empty set
+/// nothing.
+impl fmt::Display for LacpState {
+    fn fmt(&self, f: &mut fmt::Formatter<'_>) -> fmt::Result {
+        let set = FlagWords {
+            bits: u32::from(self.0),
+            known: 0xff,
+            words: LacpState::WORDS,
+        };
+        fmt::Display::fmt(&set, f)
+    }
+}
+
+/// Reads words, and numbers in hex as `0x20`, with commas between them; the empty text is the empty
+/// set. Any other text, and a number of more than 8 bits, is rejected as `(BondPort, 0, Word)`.
+impl FromStr for LacpState {
+    type Err = DecodeError;
+
+    fn from_str(text: &str) -> Result<LacpState, DecodeError> {
+        let Some(bits) = bits_of_text(text, LacpState::WORDS) else {
+            return Err(word_error(Family::BondPort));
+        };
+        match u8::try_from(bits) {
+            Ok(bits) => Ok(LacpState(bits)),
+            Err(_) => Err(word_error(Family::BondPort)),
+        }
+    }
+}
 
 /// The default is the empty set.
 impl Default for LacpState {
@@ -817,6 +859,17 @@ impl LacpState16 {
         Flag::new("Expired", LacpState16::Expired),
         Flag::new("", LacpState16(u16::MAX)),
     ];
+
+    const WORDS: &'static [(u32, &'static str)] = &[
+        (0x01, "active"),
+        (0x02, "short_timeout"),
+        (0x04, "aggregating"),
+        (0x08, "in_sync"),
+        (0x10, "collecting"),
+        (0x20, "distributing"),
+        (0x40, "defaulted"),
+        (0x80, "expired"),
+    ];
 }
 
 impl Flags for LacpState16 {
@@ -834,6 +887,35 @@ impl Flags for LacpState16 {
 }
 
 impl KeepsEveryBit for LacpState16 {}
+
+/// Writes the words of the flags, and other bits in hex, with commas between them; of the empty set
+/// nothing.
+impl fmt::Display for LacpState16 {
+    fn fmt(&self, f: &mut fmt::Formatter<'_>) -> fmt::Result {
+        let set = FlagWords {
+            bits: u32::from(self.0),
+            known: 0xff,
+            words: LacpState16::WORDS,
+        };
+        fmt::Display::fmt(&set, f)
+    }
+}
+
+/// Reads words, and numbers in hex as `0x20`, with commas between them; the empty text is the empty
+/// set. Any other text, and a number of more than 16 bits, is rejected as `(BondPort, 0, Word)`.
+impl FromStr for LacpState16 {
+    type Err = DecodeError;
+
+    fn from_str(text: &str) -> Result<LacpState16, DecodeError> {
+        let Some(bits) = bits_of_text(text, LacpState16::WORDS) else {
+            return Err(word_error(Family::BondPort));
+        };
+        match u16::try_from(bits) {
+            Ok(bits) => Ok(LacpState16(bits)),
+            Err(_) => Err(word_error(Family::BondPort)),
+        }
+    }
+}
 
 /// The default is the empty set.
 impl Default for LacpState16 {
@@ -874,6 +956,16 @@ impl From<u8> for OnOff {
 impl From<OnOff> for u8 {
     fn from(switch: OnOff) -> u8 {
         switches!(number_of_value switch)
+    }
+}
+
+/// True is [`On`], false is [`Off`].
+///
+/// [`On`]: crate::layers::numbers::OnOff::On
+/// [`Off`]: crate::layers::numbers::OnOff::Off
+impl From<bool> for OnOff {
+    fn from(truth: bool) -> OnOff {
+        if truth { OnOff::On } else { OnOff::Off }
     }
 }
 

@@ -7,7 +7,9 @@ use crate::layers::nla_frame::{DecodeError, ExactEq, Family};
 use crate::layers::numbers::by_values::{
     number_of_value, value_of_number, value_of_word, write_word,
 };
+use crate::layers::numbers::flag_words::{FlagWords, bits_of_text};
 use crate::layers::numbers::flags::KeepsEveryBit;
+use crate::layers::numbers::word::word_error;
 use bitflags::{Flag, Flags};
 use core::fmt;
 use core::str::FromStr;
@@ -148,6 +150,13 @@ impl From<BridgeMulticastRouterType> for u8 {
     }
 }
 
+impl BridgeMulticastRouterType {
+    /// Another name of [`TempQuery`].
+    ///
+    /// [`TempQuery`]: crate::layers::numbers::BridgeMulticastRouterType::TempQuery
+    pub const Auto: BridgeMulticastRouterType = BridgeMulticastRouterType::TempQuery;
+}
+
 impl ExactEq for BridgeMulticastRouterType {}
 
 /// The state of a port by the Spanning Tree Protocol: `IFLA_BRPORT_STATE`, one byte
@@ -247,6 +256,14 @@ impl BridgeBooleanOptionFlags {
         Flag::new("FdbLocalVlan0", BridgeBooleanOptionFlags::FdbLocalVlan0),
         Flag::new("", BridgeBooleanOptionFlags(u32::MAX)),
     ];
+
+    const WORDS: &'static [(u32, &'static str)] = &[
+        (0x1, "no_linklocal_learn"),
+        (0x2, "mcast_vlan_snooping"),
+        (0x4, "mst_enabled"),
+        (0x8, "mdb_offload_fail_notification"),
+        (0x10, "fdb_local_vlan_0"),
+    ];
 }
 
 impl Flags for BridgeBooleanOptionFlags {
@@ -265,6 +282,32 @@ impl Flags for BridgeBooleanOptionFlags {
 
 impl KeepsEveryBit for BridgeBooleanOptionFlags {}
 
+/// Writes the words of the flags, and other bits in hex, with commas between them; of the empty set
+/// nothing.
+impl fmt::Display for BridgeBooleanOptionFlags {
+    fn fmt(&self, f: &mut fmt::Formatter<'_>) -> fmt::Result {
+        let set = FlagWords {
+            bits: self.0,
+            known: 0x1f,
+            words: BridgeBooleanOptionFlags::WORDS,
+        };
+        fmt::Display::fmt(&set, f)
+    }
+}
+
+/// Reads words, and numbers in hex as `0x20`, with commas between them; the empty text is the empty
+/// set. Any other text, and a number of more than 32 bits, is rejected as `(Bridge, 0, Word)`.
+impl FromStr for BridgeBooleanOptionFlags {
+    type Err = DecodeError;
+
+    fn from_str(text: &str) -> Result<BridgeBooleanOptionFlags, DecodeError> {
+        match bits_of_text(text, BridgeBooleanOptionFlags::WORDS) {
+            Some(bits) => Ok(BridgeBooleanOptionFlags(bits)),
+            None => Err(word_error(Family::Bridge)),
+        }
+    }
+}
+
 /// The default is the empty set.
 impl Default for BridgeBooleanOptionFlags {
     fn default() -> BridgeBooleanOptionFlags {
@@ -273,3 +316,15 @@ impl Default for BridgeBooleanOptionFlags {
 }
 
 impl ExactEq for BridgeBooleanOptionFlags {}
+
+/// The options of a bridge, and those to change: `struct br_boolopt_multi`, two little-endian
+/// 32-bit numbers (include/uapi/linux/if_bridge.h).
+#[derive(Clone, Copy, Debug, PartialEq, Eq, Hash, PartialOrd, Ord)]
+pub struct BridgeBooleanOptions {
+    /// The options that are on (`optval`).
+    pub value: BridgeBooleanOptionFlags,
+    /// The options to change, in a reply those that the kernel has (`optmask`).
+    pub mask: BridgeBooleanOptionFlags,
+}
+
+impl ExactEq for BridgeBooleanOptions {}

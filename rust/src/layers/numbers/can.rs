@@ -7,7 +7,9 @@ use crate::layers::nla_frame::{DecodeError, ExactEq, Family};
 use crate::layers::numbers::by_values::{
     number_of_value, value_of_number, value_of_word, write_word,
 };
+use crate::layers::numbers::flag_words::{FlagWords, bits_of_text};
 use crate::layers::numbers::flags::KeepsEveryBit;
+use crate::layers::numbers::word::word_error;
 use bitflags::{Flag, Flags};
 use core::fmt;
 use core::str::FromStr;
@@ -148,6 +150,25 @@ impl CanCtrlModeFlags {
         Flag::new("XlTms", CanCtrlModeFlags::XlTms),
         Flag::new("", CanCtrlModeFlags(u32::MAX)),
     ];
+
+    const WORDS: &'static [(u32, &'static str)] = &[
+        (0x1, "LOOPBACK"),
+        (0x2, "LISTEN-ONLY"),
+        (0x4, "TRIPLE-SAMPLING"),
+        (0x8, "ONE-SHOT"),
+        (0x10, "BERR-REPORTING"),
+        (0x20, "FD"),
+        (0x40, "PRESUME-ACK"),
+        (0x80, "FD-NON-ISO"),
+        (0x100, "CC-LEN8-DLC"),
+        (0x200, "TDC-AUTO"),
+        (0x400, "TDC-MANUAL"),
+        (0x800, "RESTRICTED"),
+        (0x1000, "XL"),
+        (0x2000, "XL-TDC-AUTO"),
+        (0x4000, "XL-TDC-MANUAL"),
+        (0x8000, "TMS"),
+    ];
 }
 
 impl Flags for CanCtrlModeFlags {
@@ -166,6 +187,32 @@ impl Flags for CanCtrlModeFlags {
 
 impl KeepsEveryBit for CanCtrlModeFlags {}
 
+/// Writes the words of the flags, and other bits in hex, with commas between them; of the empty set
+/// nothing.
+impl fmt::Display for CanCtrlModeFlags {
+    fn fmt(&self, f: &mut fmt::Formatter<'_>) -> fmt::Result {
+        let set = FlagWords {
+            bits: self.0,
+            known: 0xffff,
+            words: CanCtrlModeFlags::WORDS,
+        };
+        fmt::Display::fmt(&set, f)
+    }
+}
+
+/// Reads words, and numbers in hex as `0x20`, with commas between them; the empty text is the empty
+/// set. Any other text, and a number of more than 32 bits, is rejected as `(Can, 0, Word)`.
+impl FromStr for CanCtrlModeFlags {
+    type Err = DecodeError;
+
+    fn from_str(text: &str) -> Result<CanCtrlModeFlags, DecodeError> {
+        match bits_of_text(text, CanCtrlModeFlags::WORDS) {
+            Some(bits) => Ok(CanCtrlModeFlags(bits)),
+            None => Err(word_error(Family::Can)),
+        }
+    }
+}
+
 /// The default is the empty set.
 impl Default for CanCtrlModeFlags {
     fn default() -> CanCtrlModeFlags {
@@ -174,3 +221,37 @@ impl Default for CanCtrlModeFlags {
 }
 
 impl ExactEq for CanCtrlModeFlags {}
+
+/// The modes to change, and the modes: `struct can_ctrlmode`, two little-endian 32-bit numbers
+/// (include/uapi/linux/can/netlink.h).
+#[derive(Clone, Copy, Debug, PartialEq, Eq, Hash, PartialOrd, Ord)]
+pub struct CanCtrlMode {
+    /// The modes to change, none in a reply.
+    pub mask: CanCtrlModeFlags,
+    /// The modes that are on.
+    pub flags: CanCtrlModeFlags,
+}
+
+impl ExactEq for CanCtrlMode {}
+
+/// The clock of a CAN device: `struct can_clock`, a little-endian 32-bit number
+/// (include/uapi/linux/can/netlink.h).
+#[derive(Clone, Copy, Debug, PartialEq, Eq, Hash, PartialOrd, Ord)]
+pub struct CanClock {
+    /// The frequency, in hertz.
+    pub freq: u32,
+}
+
+impl From<u32> for CanClock {
+    fn from(freq: u32) -> CanClock {
+        CanClock { freq }
+    }
+}
+
+impl From<CanClock> for u32 {
+    fn from(clock: CanClock) -> u32 {
+        clock.freq
+    }
+}
+
+impl ExactEq for CanClock {}

@@ -18,6 +18,7 @@ mod ipvlan;
 mod macsec;
 mod macvlan;
 mod netkit;
+mod ovpn;
 mod rmnet;
 mod tun;
 mod tunnel;
@@ -25,6 +26,7 @@ mod vlan;
 mod vxlan;
 // End: written by tables/generate.
 mod by_values;
+mod flag_words;
 mod flags;
 mod kind;
 mod name;
@@ -41,10 +43,10 @@ pub use bond::{
     LacpState, LacpState16, MiiStatus, OnOff,
 };
 pub use bridge::{
-    BridgeBooleanOptionFlags, BridgeMulticastRouterType, BridgePortState, BridgeStpMode,
-    BridgeStpState,
+    BridgeBooleanOptionFlags, BridgeBooleanOptions, BridgeMulticastRouterType, BridgePortState,
+    BridgeStpMode, BridgeStpState,
 };
-pub use can::{CanCtrlModeFlags, CanState};
+pub use can::{CanClock, CanCtrlMode, CanCtrlModeFlags, CanState};
 pub use ethernet::EthernetProtocol;
 pub use geneve::GeneveDf;
 pub use gre::{ErSpanDir, GreEncapFlags, GreEncapType, GreIOFlags};
@@ -59,6 +61,7 @@ pub use macvlan::{
     MacVtapMode,
 };
 pub use netkit::{NetkitMode, NetkitPolicy, NetkitScrub};
+pub use ovpn::OvpnMode;
 pub use rmnet::{InfoRmNetFlags, RmNetFlags};
 pub use tun::TunType;
 pub use tunnel::{Ip6TunnelFlags, TunnelEncapFlags, TunnelEncapType};

@@ -7,7 +7,9 @@ use crate::layers::nla_frame::{DecodeError, ExactEq, Family};
 use crate::layers::numbers::by_values::{
     number_of_value, value_of_number, value_of_word, write_word,
 };
+use crate::layers::numbers::flag_words::{FlagWords, bits_of_text};
 use crate::layers::numbers::flags::KeepsEveryBit;
+use crate::layers::numbers::word::word_error;
 use bitflags::{Flag, Flags};
 use core::fmt;
 use core::str::FromStr;
@@ -99,6 +101,14 @@ impl VlanFlags {
         Flag::new("BridgeBinding", VlanFlags::BridgeBinding),
         Flag::new("", VlanFlags(u32::MAX)),
     ];
+
+    const WORDS: &'static [(u32, &'static str)] = &[
+        (0x1, "REORDER_HDR"),
+        (0x2, "GVRP"),
+        (0x4, "LOOSE_BINDING"),
+        (0x8, "MVRP"),
+        (0x10, "BRIDGE_BINDING"),
+    ];
 }
 
 impl Flags for VlanFlags {
@@ -116,6 +126,32 @@ impl Flags for VlanFlags {
 }
 
 impl KeepsEveryBit for VlanFlags {}
+
+/// Writes the words of the flags, and other bits in hex, with commas between them; of the empty set
+/// nothing.
+impl fmt::Display for VlanFlags {
+    fn fmt(&self, f: &mut fmt::Formatter<'_>) -> fmt::Result {
+        let set = FlagWords {
+            bits: self.0,
+            known: 0x1f,
+            words: VlanFlags::WORDS,
+        };
+        fmt::Display::fmt(&set, f)
+    }
+}
+
+/// Reads words, and numbers in hex as `0x20`, with commas between them; the empty text is the empty
+/// set. Any other text, and a number of more than 32 bits, is rejected as `(Vlan, 0, Word)`.
+impl FromStr for VlanFlags {
+    type Err = DecodeError;
+
+    fn from_str(text: &str) -> Result<VlanFlags, DecodeError> {
+        match bits_of_text(text, VlanFlags::WORDS) {
+            Some(bits) => Ok(VlanFlags(bits)),
+            None => Err(word_error(Family::Vlan)),
+        }
+    }
+}
 
 /// The default is the empty set.
 impl Default for VlanFlags {

@@ -97,10 +97,10 @@ impl LinkPayload for BridgeId {
 /// The error counters of a CAN bus (`struct can_berr_counter`), four bytes.
 #[derive(Clone, Copy, Debug, PartialEq, Eq, Hash, PartialOrd, Ord)]
 pub struct CanBerrCounter {
-    /// The number of errors in transmission (`txerr`), little-endian.
-    pub transmit: u16,
-    /// The number of errors in reception (`rxerr`), little-endian.
-    pub receive: u16,
+    /// The number of errors in transmission, little-endian.
+    pub txerr: u16,
+    /// The number of errors in reception, little-endian.
+    pub rxerr: u16,
 }
 
 impl ExactEq for CanBerrCounter {}
@@ -111,12 +111,12 @@ impl Record for CanBerrCounter {
     const LEN: usize = 4;
 
     fn from_fields(fields: Self::Fields) -> CanBerrCounter {
-        let (transmit, receive) = fields;
-        CanBerrCounter { transmit, receive }
+        let (txerr, rxerr) = fields;
+        CanBerrCounter { txerr, rxerr }
     }
 
     fn to_fields(&self) -> Self::Fields {
-        (self.transmit, self.receive)
+        (self.txerr, self.rxerr)
     }
 }
 
@@ -177,22 +177,22 @@ impl LinkPayload for CanBerrCounter {
 /// of the lengths of segments.
 #[derive(Clone, Copy, Debug, PartialEq, Eq, Hash, PartialOrd, Ord)]
 pub struct CanBitTiming {
-    /// The bit rate, in bits per second (`bitrate`), little-endian.
-    pub bit_rate: u32,
+    /// The bit rate, in bits per second, little-endian.
+    pub bitrate: u32,
     /// The sample point, in tenths of a percent, little-endian.
     pub sample_point: u32,
-    /// The time quantum, in nanoseconds (`tq`), little-endian.
-    pub time_quantum: u32,
-    /// The length of the propagation segment, in time quanta (`prop_seg`), little-endian.
-    pub propagation_segment: u32,
-    /// The length of the first phase buffer segment (`phase_seg1`), little-endian.
-    pub phase_segment_1: u32,
-    /// The length of the second phase buffer segment (`phase_seg2`), little-endian.
-    pub phase_segment_2: u32,
-    /// The synchronization jump width, in time quanta (`sjw`), little-endian.
-    pub jump_width: u32,
-    /// The prescaler of the bit rate (`brp`), little-endian.
-    pub prescaler: u32,
+    /// The time quantum, in nanoseconds, little-endian.
+    pub tq: u32,
+    /// The length of the propagation segment, in time quanta, little-endian.
+    pub prop_seg: u32,
+    /// The length of the first phase buffer segment, in time quanta, little-endian.
+    pub phase_seg1: u32,
+    /// The length of the second phase buffer segment, in time quanta, little-endian.
+    pub phase_seg2: u32,
+    /// The synchronization jump width, in time quanta, little-endian.
+    pub sjw: u32,
+    /// The prescaler of the bit rate, little-endian.
+    pub brp: u32,
 }
 
 impl ExactEq for CanBitTiming {}
@@ -203,32 +203,24 @@ impl Record for CanBitTiming {
     const LEN: usize = 32;
 
     fn from_fields(fields: Self::Fields) -> CanBitTiming {
-        let (
-            ((bit_rate, sample_point), (time_quantum, propagation_segment)),
-            ((phase_segment_1, phase_segment_2), (jump_width, prescaler)),
-        ) = fields;
+        let (((bitrate, sample_point), (tq, prop_seg)), ((phase_seg1, phase_seg2), (sjw, brp))) =
+            fields;
         CanBitTiming {
-            bit_rate,
+            bitrate,
             sample_point,
-            time_quantum,
-            propagation_segment,
-            phase_segment_1,
-            phase_segment_2,
-            jump_width,
-            prescaler,
+            tq,
+            prop_seg,
+            phase_seg1,
+            phase_seg2,
+            sjw,
+            brp,
         }
     }
 
     fn to_fields(&self) -> Self::Fields {
         (
-            (
-                (self.bit_rate, self.sample_point),
-                (self.time_quantum, self.propagation_segment),
-            ),
-            (
-                (self.phase_segment_1, self.phase_segment_2),
-                (self.jump_width, self.prescaler),
-            ),
+            ((self.bitrate, self.sample_point), (self.tq, self.prop_seg)),
+            ((self.phase_seg1, self.phase_seg2), (self.sjw, self.brp)),
         )
     }
 }
@@ -291,22 +283,22 @@ impl LinkPayload for CanBitTiming {
 pub struct CanBitTimingConst {
     /// The name of the controller, which ends at the first zero byte.
     pub name: [u8; 16],
-    /// The least length of the segment before the sample (`tseg1_min`), little-endian.
-    pub segment_1_min: u32,
-    /// The greatest length of that segment (`tseg1_max`), little-endian.
-    pub segment_1_max: u32,
-    /// The least length of the segment after it (`tseg2_min`), little-endian.
-    pub segment_2_min: u32,
-    /// The greatest length of that segment (`tseg2_max`), little-endian.
-    pub segment_2_max: u32,
-    /// The greatest synchronization jump width (`sjw_max`), little-endian.
-    pub jump_width_max: u32,
-    /// The least prescaler (`brp_min`), little-endian.
-    pub prescaler_min: u32,
-    /// The greatest prescaler (`brp_max`), little-endian.
-    pub prescaler_max: u32,
-    /// The step between prescalers (`brp_inc`), little-endian.
-    pub prescaler_increment: u32,
+    /// The least length of the segment before the sample, little-endian.
+    pub tseg1_min: u32,
+    /// The greatest length of that segment, little-endian.
+    pub tseg1_max: u32,
+    /// The least length of the segment after it, little-endian.
+    pub tseg2_min: u32,
+    /// The greatest length of that segment, little-endian.
+    pub tseg2_max: u32,
+    /// The greatest synchronization jump width, little-endian.
+    pub sjw_max: u32,
+    /// The least prescaler, little-endian.
+    pub brp_min: u32,
+    /// The greatest prescaler, little-endian.
+    pub brp_max: u32,
+    /// The step between prescalers, little-endian.
+    pub brp_inc: u32,
 }
 
 impl ExactEq for CanBitTimingConst {}
@@ -323,20 +315,20 @@ impl Record for CanBitTimingConst {
         let (
             name,
             (
-                ((segment_1_min, segment_1_max), (segment_2_min, segment_2_max)),
-                ((jump_width_max, prescaler_min), (prescaler_max, prescaler_increment)),
+                ((tseg1_min, tseg1_max), (tseg2_min, tseg2_max)),
+                ((sjw_max, brp_min), (brp_max, brp_inc)),
             ),
         ) = fields;
         CanBitTimingConst {
             name,
-            segment_1_min,
-            segment_1_max,
-            segment_2_min,
-            segment_2_max,
-            jump_width_max,
-            prescaler_min,
-            prescaler_max,
-            prescaler_increment,
+            tseg1_min,
+            tseg1_max,
+            tseg2_min,
+            tseg2_max,
+            sjw_max,
+            brp_min,
+            brp_max,
+            brp_inc,
         }
     }
 
@@ -345,13 +337,10 @@ impl Record for CanBitTimingConst {
             self.name,
             (
                 (
-                    (self.segment_1_min, self.segment_1_max),
-                    (self.segment_2_min, self.segment_2_max),
+                    (self.tseg1_min, self.tseg1_max),
+                    (self.tseg2_min, self.tseg2_max),
                 ),
-                (
-                    (self.jump_width_max, self.prescaler_min),
-                    (self.prescaler_max, self.prescaler_increment),
-                ),
+                ((self.sjw_max, self.brp_min), (self.brp_max, self.brp_inc)),
             ),
         )
     }

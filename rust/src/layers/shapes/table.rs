@@ -59,7 +59,9 @@ pub fn table_shape(family: Family, kind: u16) -> Option<Shape> {
         | Family::BridgeQuerierState
         | Family::CanTdc
         | Family::CanCtrlModeExt
-        | Family::CanPwm => None,
+        | Family::CanPwm
+        | Family::Ovpn
+        | Family::Ppp => None,
     }
 }
 

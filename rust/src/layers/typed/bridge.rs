@@ -8,8 +8,8 @@ use crate::layers::nla_frame::{
     DecodeError, DefaultNla, ExactEq, Family, HeaderCount, Nla, NlaBuffer, Nlas, Parseable,
 };
 use crate::layers::numbers::{
-    BridgeBooleanOptionFlags, BridgeMulticastRouterType, BridgeStpMode, BridgeStpState, OnOff,
-    VlanProtocol,
+    BridgeBooleanOptionFlags, BridgeBooleanOptions, BridgeMulticastRouterType, BridgeStpMode,
+    BridgeStpState, OnOff, VlanProtocol,
 };
 use crate::layers::payloads::BridgeId;
 use crate::layers::table::{
@@ -43,28 +43,29 @@ pub enum InfoBridge {
     VlanProtocol(VlanProtocol),
     /// Mask of the link-local groups that are forwarded (`IFLA_BR_GROUP_FWD_MASK`), little-endian.
     GroupFwdMask(u16),
-    /// Bridge that is the root (`IFLA_BR_ROOT_ID`), eight bytes.
+    /// Bridge that is the root; read only (`IFLA_BR_ROOT_ID`), eight bytes.
     RootId(BridgeId),
-    /// Identifier of the bridge (`IFLA_BR_BRIDGE_ID`), eight bytes.
+    /// Identifier of the bridge; read only (`IFLA_BR_BRIDGE_ID`), eight bytes.
     BridgeId(BridgeId),
-    /// Number of the port toward the root (`IFLA_BR_ROOT_PORT`), little-endian.
+    /// Number of the port toward the root; read only (`IFLA_BR_ROOT_PORT`), little-endian.
     RootPort(u16),
-    /// Cost of the path to the root (`IFLA_BR_ROOT_PATH_COST`), little-endian.
+    /// Cost of the path to the root; read only (`IFLA_BR_ROOT_PATH_COST`), little-endian.
     RootPathCost(u32),
-    /// Whether the topology changes, 0 or 1 (`IFLA_BR_TOPOLOGY_CHANGE`), one byte.
+    /// Whether the topology changes, 0 or 1; read only (`IFLA_BR_TOPOLOGY_CHANGE`), one byte.
     TopologyChange(u8),
-    /// Whether the bridge detected that the topology changes, 0 or 1
+    /// Whether the bridge detected that the topology changes, 0 or 1; read only
     /// (`IFLA_BR_TOPOLOGY_CHANGE_DETECTED`), one byte.
     TopologyChangeDetected(u8),
-    /// Time until the next BPDU, in 1/100 s (`IFLA_BR_HELLO_TIMER`), little-endian.
+    /// Time until the next BPDU, in 1/100 s; read only (`IFLA_BR_HELLO_TIMER`), little-endian.
     HelloTimer(u64),
-    /// Time until the next notification of a change, in 1/100 s (`IFLA_BR_TCN_TIMER`),
+    /// Time until the next notification of a change, in 1/100 s; read only (`IFLA_BR_TCN_TIMER`),
     /// little-endian.
     TcnTimer(u64),
-    /// Time until the change of the topology ends, in 1/100 s (`IFLA_BR_TOPOLOGY_CHANGE_TIMER`),
-    /// little-endian.
+    /// Time until the change of the topology ends, in 1/100 s; read only
+    /// (`IFLA_BR_TOPOLOGY_CHANGE_TIMER`), little-endian.
     TopologyChangeTimer(u64),
-    /// Time until old addresses are dropped, in 1/100 s (`IFLA_BR_GC_TIMER`), little-endian.
+    /// Time until old addresses are dropped, in 1/100 s; read only (`IFLA_BR_GC_TIMER`),
+    /// little-endian.
     GcTimer(u64),
     /// Group address to which BPDUs are sent (`IFLA_BR_GROUP_ADDR`), six bytes.
     GroupAddr([u8; 6]),
@@ -79,7 +80,7 @@ pub enum InfoBridge {
     MulticastQueryUseIfaddr(bool),
     /// Whether the bridge sends queries (`IFLA_BR_MCAST_QUERIER`), one byte.
     MulticastQuerier(bool),
-    /// Not used any more (`IFLA_BR_MCAST_HASH_ELASTICITY`), little-endian.
+    /// Not used any more; read only (`IFLA_BR_MCAST_HASH_ELASTICITY`), little-endian.
     MulticastHashElasticity(u32),
     /// Most groups that are kept (`IFLA_BR_MCAST_HASH_MAX`), little-endian.
     MulticastHashMax(u32),
@@ -124,10 +125,10 @@ pub enum InfoBridge {
     VlanStatsPerPort(OnOff),
     /// Options, and the mask of the options to change (`IFLA_BR_MULTI_BOOLOPT`, `struct
     /// br_boolopt_multi`), each little-endian.
-    MultiBoolOpt((BridgeBooleanOptionFlags, BridgeBooleanOptionFlags)),
-    /// Queriers that the bridge knows (`IFLA_BR_MCAST_QUERIER_STATE`), a nested list.
+    MultiBoolOpt(BridgeBooleanOptions),
+    /// Queriers that the bridge knows; read only (`IFLA_BR_MCAST_QUERIER_STATE`), a nested list.
     MulticastQuerierState(Nlas<BridgeQuerierState>),
-    /// Number of learned addresses (`IFLA_BR_FDB_N_LEARNED`), little-endian.
+    /// Number of learned addresses; read only (`IFLA_BR_FDB_N_LEARNED`), little-endian.
     FdbNLearned(u32),
     /// Most addresses that are learned, 0 for any number (`IFLA_BR_FDB_MAX_LEARNED`),
     /// little-endian.
@@ -219,19 +220,18 @@ impl RowFamily for InfoBridge {
     }
 }
 
-/// Makes flags and their mask from two numbers.
-fn flags_of(pair: (u32, u32)) -> (BridgeBooleanOptionFlags, BridgeBooleanOptionFlags) {
-    let (flags, mask) = pair;
-    (
-        BridgeBooleanOptionFlags::from_bits_retain(flags),
-        BridgeBooleanOptionFlags::from_bits_retain(mask),
-    )
+/// Makes both sets of their numbers.
+fn flags_of(pair: (u32, u32)) -> BridgeBooleanOptions {
+    let (value, mask) = pair;
+    BridgeBooleanOptions {
+        value: BridgeBooleanOptionFlags::from_bits_retain(value),
+        mask: BridgeBooleanOptionFlags::from_bits_retain(mask),
+    }
 }
 
-/// The two numbers of flags and their mask.
-fn pair_of(under: (BridgeBooleanOptionFlags, BridgeBooleanOptionFlags)) -> (u32, u32) {
-    let (flags, mask) = under;
-    (flags.bits(), mask.bits())
+/// The numbers of both sets.
+fn pair_of(sets: BridgeBooleanOptions) -> (u32, u32) {
+    (sets.value.bits(), sets.mask.bits())
 }
 
 /// The row of `IFLA_BR_ROOT_ID`. Wherever it is named, `T` is `()`.

@@ -26,7 +26,7 @@ pub enum InfoBridgePort {
     Cost(u32),
     /// Whether frames go back out of the port that they came in by (`IFLA_BRPORT_MODE`), one byte.
     HairpinMode(bool),
-    /// Whether BPDUs are dropped (`IFLA_BRPORT_GUARD`), one byte.
+    /// BPDU guard: whether a received BPDU disables the port (`IFLA_BRPORT_GUARD`), one byte.
     Guard(bool),
     /// Whether the port can not become the root port (`IFLA_BRPORT_PROTECT`), one byte.
     Protect(bool),
@@ -39,36 +39,37 @@ pub enum InfoBridgePort {
     UnicastFlood(bool),
     /// Whether the bridge answers ARP for the port (`IFLA_BRPORT_PROXYARP`), one byte.
     ProxyARP(bool),
-    /// Whether addresses that the device learns are taken over (`IFLA_BRPORT_LEARNING_SYNC`), one
-    /// byte.
+    /// Whether addresses that the device learns are taken over; present kernels neither read nor
+    /// send it in the data of ports (`IFLA_BRPORT_LEARNING_SYNC`), one byte.
     LearningSync(bool),
     /// Whether the bridge answers ARP for the port, in place of its stations
     /// (`IFLA_BRPORT_PROXYARP_WIFI`), one byte.
     ProxyARPWifi(bool),
-    /// Bridge that is the root (`IFLA_BRPORT_ROOT_ID`), eight bytes.
+    /// Bridge that is the root; read only (`IFLA_BRPORT_ROOT_ID`), eight bytes.
     RootId(BridgeId),
-    /// Bridge that is designated (`IFLA_BRPORT_BRIDGE_ID`), eight bytes.
+    /// Bridge that is designated; read only (`IFLA_BRPORT_BRIDGE_ID`), eight bytes.
     BridgeId(BridgeId),
-    /// Port that is designated (`IFLA_BRPORT_DESIGNATED_PORT`), little-endian.
+    /// Port that is designated; read only (`IFLA_BRPORT_DESIGNATED_PORT`), little-endian.
     DesignatedPort(u16),
-    /// Cost that is designated (`IFLA_BRPORT_DESIGNATED_COST`), little-endian.
+    /// Cost that is designated; read only (`IFLA_BRPORT_DESIGNATED_COST`), little-endian.
     DesignatedCost(u16),
-    /// Identifier of the port: its priority and number (`IFLA_BRPORT_ID`), little-endian.
+    /// Identifier of the port: its priority and number; read only (`IFLA_BRPORT_ID`),
+    /// little-endian.
     PortId(u16),
-    /// Number of the port (`IFLA_BRPORT_NO`), little-endian.
+    /// Number of the port; read only (`IFLA_BRPORT_NO`), little-endian.
     PortNumber(u16),
-    /// Whether a change of the topology is acknowledged (`IFLA_BRPORT_TOPOLOGY_CHANGE_ACK`), one
-    /// byte.
+    /// Whether a change of the topology is acknowledged; read only
+    /// (`IFLA_BRPORT_TOPOLOGY_CHANGE_ACK`), one byte.
     TopologyChangeAck(bool),
-    /// Whether a BPDU is pending (`IFLA_BRPORT_CONFIG_PENDING`), one byte.
+    /// Whether a BPDU is pending; read only (`IFLA_BRPORT_CONFIG_PENDING`), one byte.
     ConfigPending(bool),
-    /// Time until the information of the port is too old, in 1/100 s
+    /// Time until the information of the port is too old, in 1/100 s; read only
     /// (`IFLA_BRPORT_MESSAGE_AGE_TIMER`), little-endian.
     MessageAgeTimer(u64),
-    /// Time until the next state of the port, in 1/100 s (`IFLA_BRPORT_FORWARD_DELAY_TIMER`),
-    /// little-endian.
+    /// Time until the next state of the port, in 1/100 s; read only
+    /// (`IFLA_BRPORT_FORWARD_DELAY_TIMER`), little-endian.
     ForwardDelayTimer(u64),
-    /// Time until the next BPDU, in 1/100 s (`IFLA_BRPORT_HOLD_TIMER`), little-endian.
+    /// Time until the next BPDU, in 1/100 s; read only (`IFLA_BRPORT_HOLD_TIMER`), little-endian.
     HoldTimer(u64),
     /// A command that removes the addresses learned from the port (`IFLA_BRPORT_FLUSH`), a presence
     /// flag.
@@ -93,19 +94,20 @@ pub enum InfoBridgePort {
     Isolated(bool),
     /// Index of the link that takes over (`IFLA_BRPORT_BACKUP_PORT`), little-endian.
     BackupPort(u32),
-    /// Whether the ring of MRP is open (`IFLA_BRPORT_MRP_RING_OPEN`), one byte.
+    /// Whether the ring of MRP is open; read only (`IFLA_BRPORT_MRP_RING_OPEN`), one byte.
     MrpRingOpen(bool),
-    /// Whether the ring of MRP between others is open (`IFLA_BRPORT_MRP_IN_OPEN`), one byte.
+    /// Whether the ring of MRP between others is open; read only (`IFLA_BRPORT_MRP_IN_OPEN`), one
+    /// byte.
     MrpInOpen(bool),
     /// Most hosts that are tracked (`IFLA_BRPORT_MCAST_EHT_HOSTS_LIMIT`), little-endian.
     MulticastEhtHostsLimit(u32),
-    /// How many hosts are tracked (`IFLA_BRPORT_MCAST_EHT_HOSTS_CNT`), little-endian.
+    /// How many hosts are tracked; read only (`IFLA_BRPORT_MCAST_EHT_HOSTS_CNT`), little-endian.
     MulticastEhtHostsCnt(u32),
     /// Whether frames of unknown addresses are dropped (`IFLA_BRPORT_LOCKED`), one byte.
     Locked(bool),
     /// Whether addresses are learned as locked ones (`IFLA_BRPORT_MAB`), one byte.
     Mab(bool),
-    /// How many groups there are (`IFLA_BRPORT_MCAST_N_GROUPS`), little-endian.
+    /// How many groups there are; read only (`IFLA_BRPORT_MCAST_N_GROUPS`), little-endian.
     MulticastNGroups(u32),
     /// Most groups that there can be (`IFLA_BRPORT_MCAST_MAX_GROUPS`), little-endian.
     MulticastMaxGroups(u32),

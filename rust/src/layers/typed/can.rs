@@ -7,7 +7,7 @@ use crate::compat::AllocError;
 use crate::layers::nla_frame::{
     DecodeError, DefaultNla, ExactEq, Family, HeaderCount, Nla, NlaBuffer, Nlas, Parseable,
 };
-use crate::layers::numbers::{CanCtrlModeFlags, CanState};
+use crate::layers::numbers::{CanClock, CanCtrlMode, CanCtrlModeFlags, CanState};
 use crate::layers::payloads::{CanBerrCounter, CanBitTiming, CanBitTimingConst, Numbers};
 use crate::layers::table::{
     Both, CustomRows, Decoded, Encodable, LinkFamily, Lookup, PayloadRow, RowFamily, Slot,
@@ -24,50 +24,50 @@ use core::marker::PhantomData;
 pub enum InfoCan {
     /// Timing of bits (`IFLA_CAN_BITTIMING`), 32 bytes.
     BitTiming(CanBitTiming),
-    /// Limits of the timing of bits (`IFLA_CAN_BITTIMING_CONST`), 48 bytes.
+    /// Limits of the timing of bits; read only (`IFLA_CAN_BITTIMING_CONST`), 48 bytes.
     BitTimingConst(CanBitTimingConst),
-    /// Frequency of the clock, in hertz (`IFLA_CAN_CLOCK`), little-endian.
-    Clock(u32),
-    /// State (`IFLA_CAN_STATE`), little-endian.
+    /// Frequency of the clock, in hertz; read only (`IFLA_CAN_CLOCK`), little-endian.
+    Clock(CanClock),
+    /// State; read only (`IFLA_CAN_STATE`), little-endian.
     State(CanState),
     /// The mask of the modes to change, and the modes (`IFLA_CAN_CTRLMODE`, `struct can_ctrlmode`),
     /// each little-endian.
-    CtrlMode((CanCtrlModeFlags, CanCtrlModeFlags)),
+    CtrlMode(CanCtrlMode),
     /// Delay until a restart after the bus was off, in milliseconds (`IFLA_CAN_RESTART_MS`),
     /// little-endian.
     RestartMs(u32),
     /// A restart, whatever the number (`IFLA_CAN_RESTART`), little-endian.
     Restart(u32),
-    /// Error counters (`IFLA_CAN_BERR_COUNTER`), four bytes.
+    /// Error counters; read only (`IFLA_CAN_BERR_COUNTER`), four bytes.
     BerrCounter(CanBerrCounter),
     /// Timing of the bits of data of CAN FD (`IFLA_CAN_DATA_BITTIMING`), 32 bytes.
     DataBitTiming(CanBitTiming),
-    /// Limits of the timing of the bits of data of CAN FD (`IFLA_CAN_DATA_BITTIMING_CONST`), 48
-    /// bytes.
+    /// Limits of the timing of the bits of data of CAN FD; read only
+    /// (`IFLA_CAN_DATA_BITTIMING_CONST`), 48 bytes.
     DataBitTimingConst(CanBitTimingConst),
     /// Termination, in ohms (`IFLA_CAN_TERMINATION`), little-endian.
     Termination(u16),
-    /// Terminations that the device has, in ohms (`IFLA_CAN_TERMINATION_CONST`), an array of
-    /// numbers, each little-endian.
+    /// Terminations that the device has, in ohms; read only (`IFLA_CAN_TERMINATION_CONST`), an
+    /// array of numbers, each little-endian.
     TerminationConst(Numbers<u16>),
-    /// Bit rates that the device has, in bits per second (`IFLA_CAN_BITRATE_CONST`), an array of
-    /// numbers, each little-endian.
+    /// Bit rates that the device has, in bits per second; read only (`IFLA_CAN_BITRATE_CONST`), an
+    /// array of numbers, each little-endian.
     BitRateConst(Numbers<u32>),
-    /// Bit rates of data of CAN FD that the device has, in bits per second
+    /// Bit rates of data of CAN FD that the device has, in bits per second; read only
     /// (`IFLA_CAN_DATA_BITRATE_CONST`), an array of numbers, each little-endian.
     DataBitRateConst(Numbers<u32>),
-    /// Highest bit rate, in bits per second (`IFLA_CAN_BITRATE_MAX`), little-endian.
+    /// Highest bit rate, in bits per second; read only (`IFLA_CAN_BITRATE_MAX`), little-endian.
     BitRateMax(u32),
     /// Transmitter delay compensation of CAN FD (`IFLA_CAN_TDC`), a nested list.
     Tdc(Nlas<CanTdc>),
-    /// Modes that the device has (`IFLA_CAN_CTRLMODE_EXT`), a nested list.
+    /// Modes that the device has; read only (`IFLA_CAN_CTRLMODE_EXT`), a nested list.
     CtrlModeExt(Nlas<CanCtrlModeExt>),
     /// Timing of the bits of data of CAN XL (`IFLA_CAN_XL_DATA_BITTIMING`), 32 bytes.
     XlDataBitTiming(CanBitTiming),
-    /// Limits of the timing of the bits of data of CAN XL (`IFLA_CAN_XL_DATA_BITTIMING_CONST`), 48
-    /// bytes.
+    /// Limits of the timing of the bits of data of CAN XL; read only
+    /// (`IFLA_CAN_XL_DATA_BITTIMING_CONST`), 48 bytes.
     XlDataBitTimingConst(CanBitTimingConst),
-    /// Bit rates of data of CAN XL that the device has, in bits per second
+    /// Bit rates of data of CAN XL that the device has, in bits per second; read only
     /// (`IFLA_CAN_XL_DATA_BITRATE_CONST`), an array of numbers, each little-endian.
     XlDataBitRateConst(Numbers<u32>),
     /// Transmitter delay compensation of CAN XL (`IFLA_CAN_XL_TDC`), a nested list.
@@ -83,7 +83,7 @@ macro_rules! rows {
         $body! { InfoCan $given;
             (1, custom, BitTiming),
             (2, custom, BitTimingConst),
-            (3, le32, Clock),
+            (3, le32, Clock as CanClock),
             (4, le32, State as CanState),
             (5, flag_pair, CtrlMode by flags_of, pair_of),
             (6, le32, RestartMs),
@@ -132,19 +132,18 @@ impl RowFamily for InfoCan {
     }
 }
 
-/// Makes flags and their mask from two numbers.
-fn flags_of(pair: (u32, u32)) -> (CanCtrlModeFlags, CanCtrlModeFlags) {
-    let (flags, mask) = pair;
-    (
-        CanCtrlModeFlags::from_bits_retain(flags),
-        CanCtrlModeFlags::from_bits_retain(mask),
-    )
+/// Makes both sets of their numbers.
+fn flags_of(pair: (u32, u32)) -> CanCtrlMode {
+    let (mask, flags) = pair;
+    CanCtrlMode {
+        mask: CanCtrlModeFlags::from_bits_retain(mask),
+        flags: CanCtrlModeFlags::from_bits_retain(flags),
+    }
 }
 
-/// The two numbers of flags and their mask.
-fn pair_of(under: (CanCtrlModeFlags, CanCtrlModeFlags)) -> (u32, u32) {
-    let (flags, mask) = under;
-    (flags.bits(), mask.bits())
+/// The numbers of both sets.
+fn pair_of(sets: CanCtrlMode) -> (u32, u32) {
+    (sets.mask.bits(), sets.flags.bits())
 }
 
 /// The row of `IFLA_CAN_BITTIMING`. Wherever it is named, `T` is `()`.

@@ -16,17 +16,20 @@ use crate::layers::table::{
 /// (include/uapi/linux/can/netlink.h).
 #[derive(Debug, PartialEq, Eq, Hash, PartialOrd, Ord, Clone)]
 pub enum CanTdc {
-    /// Least delay that can be set, in clock periods (`IFLA_CAN_TDC_TDCV_MIN`), little-endian.
+    /// Least delay that can be set, in clock periods; read only (`IFLA_CAN_TDC_TDCV_MIN`),
+    /// little-endian.
     TdcvMin(u32),
-    /// Greatest delay that can be set, in clock periods (`IFLA_CAN_TDC_TDCV_MAX`), little-endian.
+    /// Greatest delay that can be set, in clock periods; read only (`IFLA_CAN_TDC_TDCV_MAX`),
+    /// little-endian.
     TdcvMax(u32),
-    /// Least offset, in clock periods (`IFLA_CAN_TDC_TDCO_MIN`), little-endian.
+    /// Least offset, in clock periods; read only (`IFLA_CAN_TDC_TDCO_MIN`), little-endian.
     TdcoMin(u32),
-    /// Greatest offset, in clock periods (`IFLA_CAN_TDC_TDCO_MAX`), little-endian.
+    /// Greatest offset, in clock periods; read only (`IFLA_CAN_TDC_TDCO_MAX`), little-endian.
     TdcoMax(u32),
-    /// Least size of the filter window, in clock periods (`IFLA_CAN_TDC_TDCF_MIN`), little-endian.
+    /// Least size of the filter window, in clock periods; read only (`IFLA_CAN_TDC_TDCF_MIN`),
+    /// little-endian.
     TdcfMin(u32),
-    /// Greatest size of the filter window, in clock periods (`IFLA_CAN_TDC_TDCF_MAX`),
+    /// Greatest size of the filter window, in clock periods; read only (`IFLA_CAN_TDC_TDCF_MAX`),
     /// little-endian.
     TdcfMax(u32),
     /// Delay of the transmitter, in clock periods (`IFLA_CAN_TDC_TDCV`), little-endian.

@@ -24,9 +24,10 @@ pub enum InfoHsr {
     /// Last byte of the address that supervision frames are sent to (`IFLA_HSR_MULTICAST_SPEC`),
     /// one byte.
     MulticastSpec(u8),
-    /// Address that supervision frames are sent to (`IFLA_HSR_SUPERVISION_ADDR`), six bytes.
+    /// Address that supervision frames are sent to; read only (`IFLA_HSR_SUPERVISION_ADDR`), six
+    /// bytes.
     SupervisionAddr([u8; 6]),
-    /// Sequence number of the next frame (`IFLA_HSR_SEQ_NR`), little-endian.
+    /// Sequence number of the next frame; read only (`IFLA_HSR_SEQ_NR`), little-endian.
     SeqNr(u16),
     /// Version of HSR, 0 or 1 (`IFLA_HSR_VERSION`), one byte.
     Version(u8),

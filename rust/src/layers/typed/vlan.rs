@@ -73,19 +73,19 @@ impl RowFamily for InfoVlan {
     }
 }
 
-/// Makes flags and their mask from two numbers.
+/// Makes both sets of their numbers.
 fn flags_of(pair: (u32, u32)) -> (VlanFlags, VlanFlags) {
-    let (flags, mask) = pair;
+    let (first, second) = pair;
     (
-        VlanFlags::from_bits_retain(flags),
-        VlanFlags::from_bits_retain(mask),
+        VlanFlags::from_bits_retain(first),
+        VlanFlags::from_bits_retain(second),
     )
 }
 
-/// The two numbers of flags and their mask.
-fn pair_of(under: (VlanFlags, VlanFlags)) -> (u32, u32) {
-    let (flags, mask) = under;
-    (flags.bits(), mask.bits())
+/// The numbers of both sets.
+fn pair_of(sets: (VlanFlags, VlanFlags)) -> (u32, u32) {
+    let (first, second) = sets;
+    (first.bits(), second.bits())
 }
 
 /// The row of `IFLA_VLAN_EGRESS_QOS`. Wherever it is named, `T` is `()`.

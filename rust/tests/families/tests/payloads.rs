@@ -61,19 +61,19 @@ fn records() {
     };
     is_payload(&[0x80, 1, 2, 0, 0, 0, 0, 7], &id);
     let counters = CanBerrCounter {
-        transmit: 258,
-        receive: 7,
+        txerr: 258,
+        rxerr: 7,
     };
     is_payload(&[2, 1, 7, 0], &counters);
     let timing = CanBitTiming {
-        bit_rate: 16_909_060,
+        bitrate: 16_909_060,
         sample_point: 2,
-        time_quantum: 3,
-        propagation_segment: 4,
-        phase_segment_1: 5,
-        phase_segment_2: 6,
-        jump_width: 7,
-        prescaler: 8,
+        tq: 3,
+        prop_seg: 4,
+        phase_seg1: 5,
+        phase_seg2: 6,
+        sjw: 7,
+        brp: 8,
     };
     let bytes = [
         4, 3, 2, 1, 2, 0, 0, 0, 3, 0, 0, 0, 4, 0, 0, 0, 5, 0, 0, 0, 6, 0, 0, 0, 7, 0, 0, 0, 8, 0,
@@ -87,14 +87,14 @@ fn limits_with_a_name() {
     // The bytes after the first NUL of the name count.
     let limits = CanBitTimingConst {
         name: *b"mcp\0\x01\0\0\0\0\0\0\0\0\0\0\x02",
-        segment_1_min: 1,
-        segment_1_max: 2,
-        segment_2_min: 3,
-        segment_2_max: 4,
-        jump_width_max: 5,
-        prescaler_min: 6,
-        prescaler_max: 7,
-        prescaler_increment: 16_909_060,
+        tseg1_min: 1,
+        tseg1_max: 2,
+        tseg2_min: 3,
+        tseg2_max: 4,
+        sjw_max: 5,
+        brp_min: 6,
+        brp_max: 7,
+        brp_inc: 16_909_060,
     };
     let bytes = [
         b'm', b'c', b'p', 0, 1, 0, 0, 0, 0, 0, 0, 0, 0, 0, 0, 2, 1, 0, 0, 0, 2, 0, 0, 0, 3, 0, 0,

@@ -167,7 +167,8 @@ const ROWS: &[(&[u8], &str)] = &[
     (&[5, 0, 45, 0, 0, 0, 0, 0], "VlanStatsPerPort(Off)"),
     (
         &[12, 0, 46, 0, 17, 0, 0, 0, 31, 0, 0, 0],
-        "MultiBoolOpt((BridgeBooleanOptionFlags(17), BridgeBooleanOptionFlags(31)))",
+        "MultiBoolOpt(BridgeBooleanOptions { value: BridgeBooleanOptionFlags(17), \
+         mask: BridgeBooleanOptionFlags(31) })",
     ),
     (&[8, 0, 48, 0, 4, 3, 2, 1], "FdbNLearned(16909060)"),
     (&[8, 0, 49, 0, 4, 3, 2, 1], "FdbMaxLearned(16909060)"),

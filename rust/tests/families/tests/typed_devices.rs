@@ -1,6 +1,6 @@
 // @generated from crates/linkinfo_families_tests/src/tests/typed_devices.rt by rust/translate/run.
 
-//! Typed attributes of `tun`, `hsr` and `dsa` links.
+//! Typed attributes of `tun`, `hsr`, `dsa`, `ovpn` and `ppp` links.
 
 use super::lengths::has_only_length;
 use super::rows::{
@@ -8,9 +8,9 @@ use super::rows::{
     is_list, list_is_written_as,
 };
 use linkinfo::layers::nla_frame::DefaultNla;
-use linkinfo::layers::numbers::{HsrProtocol, TunType};
+use linkinfo::layers::numbers::{HsrProtocol, OvpnMode, TunType};
 use linkinfo::layers::table::Shape;
-use linkinfo::layers::typed::{InfoDsa, InfoHsr, InfoTun};
+use linkinfo::layers::typed::{InfoDsa, InfoHsr, InfoOvpn, InfoPpp, InfoTun};
 
 /// Types of tun links, and the shapes of their rows.
 const TUN_SHAPES: &[(u16, Shape)] = &[
@@ -137,6 +137,63 @@ fn rows_of_dsa() {
     has_one_length::<InfoDsa>((), &[8, 0, 1, 0, 7, 0, 0, 0]);
 }
 
+/// Canonical attributes of OpenVPN devices, and their values as `Debug` writes them.
+const OVPN_ROWS: &[(&[u8], &str)] = &[
+    (&[5, 0, 1, 0, 0, 0, 0, 0], "Mode(P2p)"),
+    (&[5, 0, 1, 0, 1, 0, 0, 0], "Mode(Mp)"),
+    (&[5, 0, 1, 0, 2, 0, 0, 0], "Mode(Other(2))"),
+];
+
+impl HoldsOthers for InfoOvpn {
+    fn from_other(nla: DefaultNla) -> InfoOvpn {
+        InfoOvpn::Other(nla)
+    }
+}
+
+impl HasExample for InfoOvpn {
+    fn example() -> InfoOvpn {
+        InfoOvpn::Mode(OvpnMode::Mp)
+    }
+}
+
+#[test]
+fn rows_of_ovpn() {
+    has_shapes::<InfoOvpn>((), &[(1, Shape::U8)]);
+    // The kernel's reply for a device with several peers.
+    let reply = [5, 0, 1, 0, 1, 0, 0, 0];
+    has_rows_and_others::<InfoOvpn>(OVPN_ROWS, UNLISTED, &reply);
+    is_list::<InfoOvpn>((), &reply, "[Mode(Mp)]");
+    has_one_length::<InfoOvpn>((), &[5, 0, 1, 0, 1]);
+}
+
+/// Canonical attributes of PPP devices, and their values as `Debug` writes them.
+const PPP_ROWS: &[(&[u8], &str)] = &[
+    (&[8, 0, 1, 0, 4, 3, 2, 1], "DevFd(16909060)"),
+    (&[8, 0, 1, 0, 0, 0, 0, 128], "DevFd(-2147483648)"),
+    (&[8, 0, 1, 0, 255, 255, 255, 255], "DevFd(-1)"),
+];
+
+impl HoldsOthers for InfoPpp {
+    fn from_other(nla: DefaultNla) -> InfoPpp {
+        InfoPpp::Other(nla)
+    }
+}
+
+impl HasExample for InfoPpp {
+    fn example() -> InfoPpp {
+        InfoPpp::DevFd(7)
+    }
+}
+
+#[test]
+fn rows_of_ppp() {
+    has_shapes::<InfoPpp>((), &[(1, Shape::I32)]);
+    has_rows_and_others::<InfoPpp>(PPP_ROWS, UNLISTED, &[8, 0, 1, 0, 7, 0, 0, 0]);
+    has_one_length::<InfoPpp>((), &[8, 0, 1, 0, 7, 0, 0, 0]);
+    // The kernel's reply has no attribute.
+    is_list::<InfoPpp>((), &[], "[]");
+}
+
 #[test]
 fn every_length() {
     for (kind, length) in [
@@ -165,4 +222,6 @@ fn every_length() {
         has_only_length::<InfoHsr>(kind, length);
     }
     has_only_length::<InfoDsa>(1, 4);
+    has_only_length::<InfoOvpn>(1, 1);
+    has_only_length::<InfoPpp>(1, 4);
 }

@@ -6,7 +6,8 @@ use super::assertions::assert_is;
 use bitflags::Flags;
 use linkinfo::layers::nla_frame::is_equal;
 use linkinfo::layers::numbers::{
-    GreEncapFlags, GreIOFlags, InfoRmNetFlags, Ip6TunnelFlags, IpVlanFlags, KeepsEveryBit,
+    BridgeBooleanOptionFlags, BridgeBooleanOptions, CanCtrlMode, CanCtrlModeFlags, GreEncapFlags,
+    GreIOFlags, InfoRmNetFlags, Ip6TunnelFlags, IpVlanFlags, KeepsEveryBit, LacpState, LacpState16,
     MacVlanFlags, RmNetFlags, TunnelEncapFlags, VlanFlags, bits_again,
 };
 use std::collections::hash_map::DefaultHasher;
@@ -110,6 +111,78 @@ fn named_bits_of_devices() {
     );
 }
 
+#[test]
+fn named_bits_of_ports() {
+    assert_is(
+        "LacpState",
+        [
+            LacpState::Activity.bits(),
+            LacpState::Timeout.bits(),
+            LacpState::Aggregation.bits(),
+            LacpState::Synchronization.bits(),
+            LacpState::Collecting.bits(),
+            LacpState::Distributing.bits(),
+            LacpState::Defaulted.bits(),
+            LacpState::Expired.bits(),
+        ],
+        [0x01, 0x02, 0x04, 0x08, 0x10, 0x20, 0x40, 0x80],
+    );
+    assert_is(
+        "LacpState16",
+        [
+            LacpState16::Activity.bits(),
+            LacpState16::Timeout.bits(),
+            LacpState16::Aggregation.bits(),
+            LacpState16::Synchronization.bits(),
+            LacpState16::Collecting.bits(),
+            LacpState16::Distributing.bits(),
+            LacpState16::Defaulted.bits(),
+            LacpState16::Expired.bits(),
+        ],
+        [0x01, 0x02, 0x04, 0x08, 0x10, 0x20, 0x40, 0x80],
+    );
+}
+
+#[test]
+fn named_bits_of_options() {
+    assert_is(
+        "BridgeBooleanOptionFlags",
+        [
+            BridgeBooleanOptionFlags::NoLinkLocalLearn.bits(),
+            BridgeBooleanOptionFlags::VlanMulticastSnooping.bits(),
+            BridgeBooleanOptionFlags::MstEnable.bits(),
+            BridgeBooleanOptionFlags::MdbOffloadFailNotif.bits(),
+            BridgeBooleanOptionFlags::FdbLocalVlan0.bits(),
+        ],
+        [0x1, 0x2, 0x4, 0x8, 0x10],
+    );
+    assert_is(
+        "CanCtrlModeFlags",
+        [
+            CanCtrlModeFlags::Loopback.bits(),
+            CanCtrlModeFlags::ListenOnly.bits(),
+            CanCtrlModeFlags::TripleSampling.bits(),
+            CanCtrlModeFlags::OneShot.bits(),
+            CanCtrlModeFlags::BerrReporting.bits(),
+            CanCtrlModeFlags::Fd.bits(),
+            CanCtrlModeFlags::PresumeAck.bits(),
+            CanCtrlModeFlags::FdNonIso.bits(),
+            CanCtrlModeFlags::CcLen8Dlc.bits(),
+            CanCtrlModeFlags::TdcAuto.bits(),
+            CanCtrlModeFlags::TdcManual.bits(),
+            CanCtrlModeFlags::Restricted.bits(),
+            CanCtrlModeFlags::Xl.bits(),
+            CanCtrlModeFlags::XlTdcAuto.bits(),
+            CanCtrlModeFlags::XlTdcManual.bits(),
+            CanCtrlModeFlags::XlTms.bits(),
+        ],
+        [
+            0x1, 0x2, 0x4, 0x8, 0x10, 0x20, 0x40, 0x80, 0x100, 0x200, 0x400, 0x800, 0x1000, 0x2000,
+            0x4000, 0x8000,
+        ],
+    );
+}
+
 /// The number of named flags of a set, and the first name.
 fn names<F: Flags>() -> (usize, Option<&'static str>) {
     let flags = F::FLAGS;
@@ -130,6 +203,10 @@ fn flags_have_names() {
             names::<MacVlanFlags>(),
             names::<RmNetFlags>(),
             names::<VlanFlags>(),
+            names::<BridgeBooleanOptionFlags>(),
+            names::<CanCtrlModeFlags>(),
+            names::<LacpState>(),
+            names::<LacpState16>(),
         ],
         [
             (9, Some("Checksum")),
@@ -140,6 +217,10 @@ fn flags_have_names() {
             (2, Some("NoPromisc")),
             (6, Some("IngressDeaggregation")),
             (5, Some("ReorderHdr")),
+            (5, Some("NoLinkLocalLearn")),
+            (16, Some("Loopback")),
+            (8, Some("Activity")),
+            (8, Some("Activity")),
         ],
     );
 }
@@ -163,8 +244,9 @@ fn every_number_is_a_set() {
                 bits_again::<TunnelEncapFlags>(bits),
                 bits_again::<IpVlanFlags>(bits),
                 bits_again::<MacVlanFlags>(bits),
+                bits_again::<LacpState16>(bits),
             ],
-            [kept; 5],
+            [kept; 6],
         );
     }
     for bits in LONG_SETS {
@@ -176,9 +258,15 @@ fn every_number_is_a_set() {
                 bits_again::<Ip6TunnelFlags>(bits),
                 bits_again::<RmNetFlags>(bits),
                 bits_again::<VlanFlags>(bits),
+                bits_again::<BridgeBooleanOptionFlags>(bits),
+                bits_again::<CanCtrlModeFlags>(bits),
             ],
-            [kept; 3],
+            [kept; 5],
         );
+    }
+    for bits in [0, 1, 0x7f, 0x80, u8::MAX] {
+        let kept = (Some(bits), bits);
+        assert_is(bits, bits_again::<LacpState>(bits), kept);
     }
 }
 
@@ -192,6 +280,14 @@ fn sets_of_bits() {
     assert!(is_equal(&GreEncapFlags::default(), &GreEncapFlags::empty()));
     assert!(is_equal(&IpVlanFlags::default(), &IpVlanFlags::empty()));
     assert!(is_equal(&VlanFlags::default(), &VlanFlags::empty()));
+    assert!(is_equal(&LacpState::default(), &LacpState::empty()));
+    assert!(is_equal(&LacpState16::default(), &LacpState16::empty()));
+    let options = BridgeBooleanOptionFlags::default();
+    assert!(is_equal(&options, &BridgeBooleanOptionFlags::empty()));
+    assert!(is_equal(
+        &CanCtrlModeFlags::default(),
+        &CanCtrlModeFlags::empty()
+    ));
 }
 
 #[test]
@@ -205,6 +301,28 @@ fn flags_under_a_mask() {
         (1, 255),
     );
     assert!(both != InfoRmNetFlags::new(mask, flags));
+}
+
+#[test]
+fn records_of_two_sets() {
+    let value = BridgeBooleanOptionFlags::MstEnable;
+    let mask = BridgeBooleanOptionFlags::from_bits_retain(0x1f);
+    let options = BridgeBooleanOptions { value, mask };
+    assert!(is_equal(&options, &BridgeBooleanOptions { value, mask }));
+    let swapped = BridgeBooleanOptions {
+        value: mask,
+        mask: value,
+    };
+    assert!(!is_equal(&options, &swapped));
+    let mask = CanCtrlModeFlags::Fd;
+    let flags = CanCtrlModeFlags::empty();
+    let mode = CanCtrlMode { mask, flags };
+    assert!(is_equal(&mode, &CanCtrlMode { mask, flags }));
+    let swapped = CanCtrlMode {
+        mask: flags,
+        flags: mask,
+    };
+    assert!(!is_equal(&mode, &swapped));
 }
 
 fn hash_of<T: Hash>(value: &T) -> u64 {

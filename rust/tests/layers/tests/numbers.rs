@@ -4,10 +4,10 @@
 
 use super::assertions::assert_is;
 use linkinfo::layers::numbers::{
-    AmtMode, ErSpanDir, EthernetProtocol, GeneveDf, GreEncapType, GtpRole, HsrProtocol, IpProtocol,
-    IpVlanMode, IpoibMode, MacSecCipherId, MacSecOffload, MacSecValidate, MacVlanMacAddressMode,
-    MacVlanMode, NetkitMode, NetkitPolicy, NetkitScrub, TunType, TunnelEncapType, VlanProtocol,
-    VxlanDf,
+    AmtMode, BridgeMulticastRouterType, CanClock, ErSpanDir, EthernetProtocol, GeneveDf,
+    GreEncapType, GtpRole, HsrProtocol, IpProtocol, IpVlanMode, IpoibMode, MacSecCipherId,
+    MacSecOffload, MacSecValidate, MacVlanMacAddressMode, MacVlanMode, NetkitMode, NetkitPolicy,
+    NetkitScrub, OnOff, OvpnMode, TunType, TunnelEncapType, VlanProtocol, VxlanDf,
 };
 use std::fmt::Debug;
 
@@ -210,6 +210,43 @@ const HSR_PROTOCOLS: &[(u8, HsrProtocol)] = &[
     (u8::MAX, HsrProtocol::Other(u8::MAX)),
 ];
 
+const ON_OFF: &[(u8, OnOff)] = &[
+    (0, OnOff::Off),
+    (1, OnOff::On),
+    (2, OnOff::Other(2)),
+    (u8::MAX, OnOff::Other(u8::MAX)),
+];
+
+const MULTICAST_ROUTERS: &[(u8, BridgeMulticastRouterType)] = &[
+    (0, BridgeMulticastRouterType::Disabled),
+    (1, BridgeMulticastRouterType::TempQuery),
+    (1, BridgeMulticastRouterType::Auto),
+    (2, BridgeMulticastRouterType::Permanent),
+    (3, BridgeMulticastRouterType::Temp),
+    (4, BridgeMulticastRouterType::Other(4)),
+    (u8::MAX, BridgeMulticastRouterType::Other(u8::MAX)),
+];
+
+const OVPN_MODES: &[(u8, OvpnMode)] = &[
+    (0, OvpnMode::P2p),
+    (1, OvpnMode::Mp),
+    (2, OvpnMode::Other(2)),
+    (u8::MAX, OvpnMode::Other(u8::MAX)),
+];
+
+const CAN_CLOCKS: &[(u32, CanClock)] = &[
+    (0, CanClock { freq: 0 }),
+    (8_000_000, CanClock { freq: 8_000_000 }),
+    (u32::MAX, CanClock { freq: u32::MAX }),
+];
+
+#[test]
+fn switches() {
+    check_both_ways(ON_OFF);
+    assert_is("true", OnOff::from(true), OnOff::On);
+    assert_is("false", OnOff::from(false), OnOff::Off);
+}
+
 #[test]
 fn tunnel_numbers() {
     check_both_ways(AMT_MODES);
@@ -235,6 +272,9 @@ fn device_numbers() {
     check_both_ways(NETKIT_POLICIES);
     check_both_ways(TUN_TYPES);
     check_both_ways(HSR_PROTOCOLS);
+    check_both_ways(MULTICAST_ROUTERS);
+    check_both_ways(OVPN_MODES);
+    check_both_ways(CAN_CLOCKS);
 }
 
 /// Numbers of types with a conversion from a reference.

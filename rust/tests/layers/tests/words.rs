@@ -6,7 +6,8 @@ use super::assertions::{assert_displayed, assert_is, decode_error};
 use linkinfo::layers::nla_frame::{Cause, DecodeError, Family};
 use linkinfo::layers::numbers::{
     AmtMode, ErSpanDir, GeneveDf, GreEncapType, GtpRole, HsrProtocol, IpVlanMode, MacVlanMode,
-    NetkitMode, NetkitPolicy, NetkitScrub, TunType, TunnelEncapType, VlanProtocol, VxlanDf,
+    NetkitMode, NetkitPolicy, NetkitScrub, OnOff, OvpnMode, TunType, TunnelEncapType, VlanProtocol,
+    VxlanDf,
 };
 use std::fmt::{Debug, Display};
 use std::str::FromStr;
@@ -82,6 +83,10 @@ const TUN_WORDS: &[(TunType, &str)] = &[(TunType::Tun, "tun"), (TunType::Tap, "t
 
 const HSR_WORDS: &[(HsrProtocol, &str)] = &[(HsrProtocol::Hsr, "hsr"), (HsrProtocol::Prp, "prp")];
 
+const OVPN_WORDS: &[(OvpnMode, &str)] = &[(OvpnMode::P2p, "p2p"), (OvpnMode::Mp, "mp")];
+
+const ON_OFF_WORDS: &[(OnOff, &str)] = &[(OnOff::Off, "off"), (OnOff::On, "on")];
+
 #[test]
 fn words() {
     check_words(Family::Amt, AMT_WORDS);
@@ -94,6 +99,8 @@ fn words() {
     check_words(Family::Vlan, VLAN_PROTOCOL_WORDS);
     check_words(Family::Tun, TUN_WORDS);
     check_words(Family::Hsr, HSR_WORDS);
+    check_words(Family::Ovpn, OVPN_WORDS);
+    check_words(Family::Bond, ON_OFF_WORDS);
     let rejected = Err(decode_error(Family::Netkit, 0, Cause::Word));
     assert_is("l3s", NetkitMode::from_str("l3s"), rejected);
 }
@@ -160,4 +167,6 @@ fn texts() {
     check_texts(&[(VlanProtocol::Other(0x8847), "34887")]);
     check_texts(&[(TunType::Other(3), "3")]);
     check_texts(&[(HsrProtocol::Other(2), "2")]);
+    check_texts(&[(OvpnMode::Other(2), "2")]);
+    check_texts(&[(OnOff::Other(2), "2")]);
 }

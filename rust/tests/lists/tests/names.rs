@@ -6,7 +6,8 @@ use super::assertions::{assert_equal, bytes_of, link_error};
 use super::worked::{FIRST_ERROR, SECOND_PORT_DATA};
 use crate::support::*;
 use linkinfo::layers::link::{
-    Cause, DecodeError, ErrorAt, Explanation, Family, attribute_name, check_at,
+    AttributeUse, Cause, DecodeError, ErrorAt, Explanation, Family, attribute_name, attribute_use,
+    check_at,
 };
 use std::fmt::Display;
 
@@ -18,14 +19,36 @@ const NAMES: &[(Family, u16, Option<&str>)] = &[
     (Family::LinkInfo, 5, Some("IFLA_INFO_SLAVE_DATA")),
     (Family::LinkInfo, 6, None),
     (Family::Amt, 8, Some("IFLA_AMT_MAX_TUNNELS")),
-    (Family::Bond, 1, None),
+    (Family::Bond, 0, None),
+    (Family::Bond, 1, Some("IFLA_BOND_MODE")),
+    (Family::Bond, 35, None),
+    (
+        Family::BridgePort,
+        38,
+        Some("IFLA_BRPORT_MCAST_EHT_HOSTS_CNT"),
+    ),
+    (Family::BridgePort, 26, None),
+    (
+        Family::BridgeQuerierState,
+        7,
+        Some("BRIDGE_QUERIER_IPV6_OTHER_TIMER"),
+    ),
+    (Family::Can, 22, Some("IFLA_CAN_XL_PWM")),
+    (Family::CanTdc, 9, Some("IFLA_CAN_TDC_TDCF")),
+    (Family::Dsa, 1, Some("IFLA_DSA_CONDUIT")),
+    (Family::Ovpn, 1, Some("IFLA_OVPN_MODE")),
+    (Family::Pfcp, 1, None),
+    (Family::Ppp, 1, Some("IFLA_PPP_DEV_FD")),
+    (Family::Vlan, 5, Some("IFLA_VLAN_PROTOCOL")),
     (Family::Gre, 1, Some("IFLA_GRE_LINK")),
     (Family::Gre, 11, None),
     (Family::Gre6, 11, Some("IFLA_GRE_ENCAP_LIMIT")),
     (Family::IpTunnel, 8, Some("IFLA_IPTUN_FLAGS")),
     (Family::IpVtap, 2, Some("IFLA_IPVLAN_FLAGS")),
     (Family::MacVtap, 5, Some("IFLA_MACVLAN_MACADDR_DATA")),
+    (Family::TeamPort, 1, None),
     (Family::Veth, 1, Some("VETH_INFO_PEER")),
+    (Family::VlanQosMapping, 1, Some("IFLA_VLAN_QOS_MAPPING")),
     (Family::Vrf, 1, Some("IFLA_VRF_TABLE")),
     (Family::Vxcan, 1, Some("VXCAN_INFO_PEER")),
     (Family::Vxlan, 0, None),
@@ -37,6 +60,51 @@ const NAMES: &[(Family, u16, Option<&str>)] = &[
 fn has_names() {
     for (family, kind, name) in NAMES {
         assert_equal(&(*family, *kind), &attribute_name(*family, *kind), name);
+    }
+}
+
+/// How the kernel uses some types: of each use, of families that share them, of inner families, and
+/// of types and families without names.
+const USES: &[(Family, u16, Option<AttributeUse>)] = &[
+    (Family::Frame, 1, None),
+    (Family::LinkInfo, 2, Some(AttributeUse::ReadWrite)),
+    (Family::LinkInfo, 3, Some(AttributeUse::ReadOnly)),
+    (Family::Amt, 6, Some(AttributeUse::ReadOnly)),
+    (Family::BatAdv, 1, Some(AttributeUse::NeverReturned)),
+    (Family::Bond, 1, Some(AttributeUse::ReadWrite)),
+    (Family::Bond, 23, Some(AttributeUse::ReadOnly)),
+    (Family::Bond, 35, None),
+    (Family::BondAdInfo, 5, Some(AttributeUse::ReadOnly)),
+    (Family::BondPort, 9, Some(AttributeUse::ReadWrite)),
+    (Family::BondPort, 12, Some(AttributeUse::ReadOnly)),
+    (Family::Bridge, 21, Some(AttributeUse::Command)),
+    (Family::Bridge, 40, None),
+    (Family::BridgePort, 11, Some(AttributeUse::NeverReturned)),
+    (Family::BridgePort, 24, Some(AttributeUse::Command)),
+    (Family::BridgeQuerierState, 7, Some(AttributeUse::ReadOnly)),
+    (Family::Can, 1, Some(AttributeUse::ReadWrite)),
+    (Family::Can, 7, Some(AttributeUse::Command)),
+    (Family::Can, 20, Some(AttributeUse::ReadOnly)),
+    (Family::CanTdc, 6, Some(AttributeUse::ReadOnly)),
+    (Family::CanTdc, 7, Some(AttributeUse::ReadWrite)),
+    (Family::Gtp, 1, Some(AttributeUse::NeverReturned)),
+    (Family::Hsr, 3, Some(AttributeUse::NeverReturned)),
+    (Family::Hsr, 5, Some(AttributeUse::ReadOnly)),
+    (Family::MacVtap, 3, Some(AttributeUse::Command)),
+    (Family::MacVtap, 6, Some(AttributeUse::ReadOnly)),
+    (Family::Netkit, 2, Some(AttributeUse::ReadOnly)),
+    (Family::Pfcp, 1, None),
+    (Family::Ppp, 1, Some(AttributeUse::NeverReturned)),
+    (Family::Tun, 9, Some(AttributeUse::ReadOnly)),
+    (Family::Vlan, 1, Some(AttributeUse::ReadWrite)),
+    (Family::Vxcan, 1, Some(AttributeUse::NeverReturned)),
+    (Family::Vxlan, 34, Some(AttributeUse::NeverReturned)),
+];
+
+#[test]
+fn has_uses() {
+    for (family, kind, used) in USES {
+        assert_equal(&(*family, *kind), &attribute_use(*family, *kind), used);
     }
 }
 

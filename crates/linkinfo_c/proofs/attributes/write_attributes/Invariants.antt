@@ -5,7 +5,7 @@ use Rattle.linkinfo_c.proofs.attributes.write_attributes.Given as goal
 
 abbrev pub invariant-loop-next : goal.invariant-loop-next
 invariant-loop-next g l =
-    Framed g.R.AttributeRecord.record_at l.bytes l.family l.kind l.initial.records l.records l.count
+    Framed g.R.AttributeRecord.record_at l.bytes l.contents l.initial.records l.records l.count
     l.place l.nlas
 
 abbrev pub decreases-loop-next : goal.decreases-loop-next

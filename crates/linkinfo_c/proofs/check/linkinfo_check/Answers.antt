@@ -1,10 +1,11 @@
 use Rattle.std.proofs.Common.{ap, subst, sym, ◌∙◌}
 use Rattle.linkinfo.specs.Strings.{reading}
-use Rattle.linkinfo_data.specs.BytesLayer.{bytes_layer}
+use Rattle.linkinfo_data.specs.TypedLayer.{typed_layer}
 use Rattle.linkinfo_c.specs.Causes.{IsReturnedCode}
 use Rattle.linkinfo_c.specs.Errors.{error_or_none}
 use Rattle.linkinfo_c.specs.declared.error.LinkinfoError.{LinkinfoError}
-use Rattle.linkinfo_c.proofs.CausingData.{reading_errors, verdict_code}
+use Rattle.linkinfo_c.proofs.CausingData.{verdict_code}
+use Rattle.linkinfo_c.proofs.CausingTyped.{typed_errors}
 use Rattle.linkinfo_c.proofs.check.linkinfo_check.Goals as goal
 
 pub returns-clause-cause : goal.returns-clause-cause
@@ -12,4 +13,4 @@ returns-clause-cause c =
     let s = c.args.bytes.now in
     subst (λ (z : LinkinfoError). IsReturnedCode z.cause)
     (sym (c.error_or_none.ensures ∙ ap error_or_none c.check.ensures.answer))
-    (verdict_code (reading bytes_layer s) (reading_errors s))
+    (verdict_code (reading typed_layer s) (typed_errors s))

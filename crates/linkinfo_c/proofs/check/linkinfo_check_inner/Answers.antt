@@ -1,11 +1,14 @@
 use Rattle.std.proofs.Common.{subst, sym}
+use Rattle.linkinfo.specs.Strings.{reading}
+use Rattle.linkinfo_data.specs.TypedLayer.{typed_layer}
 use Rattle.linkinfo_c.specs.Causes.{IsReturnedCode}
 use Rattle.linkinfo_c.specs.declared.error.LinkinfoError.{LinkinfoError}
-use Rattle.linkinfo_c.proofs.CausingData.{error_code, reading_errors}
+use Rattle.linkinfo_c.proofs.CausingTyped.{typed_errors}
+use Rattle.linkinfo_c.proofs.CausingData.{verdict_code}
 use Rattle.linkinfo_c.proofs.check.linkinfo_check_inner.Goals as goal
 
-pub returns-in-Err-clause-cause : goal.returns-in-Err-clause-cause
-returns-in-Err-clause-cause c =
-    subst (λ (z : LinkinfoError). IsReturnedCode z.cause) (sym c.error_record.ensures)
-    (error_code c.in-Err.at.error
-    (reading_errors c.args.bytes.now c.in-Err.at.error c.in-Err.ensures.answer))
+pub returns-clause-cause : goal.returns-clause-cause
+returns-clause-cause c =
+    let s = c.args.bytes.now in
+    subst (λ (z : LinkinfoError). IsReturnedCode z.cause) (sym c.inner_error.ensures.error)
+    (verdict_code (reading typed_layer s) (typed_errors s))

@@ -15,8 +15,9 @@ pub loop-next-preserved : goal.loop-next-preserved
 loop-next-preserved c =
     let moves = rw c.in-Ok.is at c.in-Some.ensures.steps in
     record {
-      members = members_step _ c.in-Ok.item _ _ _ _ _ moves c.in_ok-name-in-Ok.ensures
-          c.in_ok-push-in-Ok.ensures.members c.loop-next.invariant.members;
+      members = members_step _ c.in-Ok.item _ _ _ _ _ _ _ moves c.in_ok-name-in-Ok.ensures
+          c.in_ok-push-in-Ok.ensures.named c.in_ok-push-in-Ok.ensures.members
+          c.loop-next.invariant.members;
       others = others_step _ c.in-Ok.item _ _ _ _ _ moves c.in_ok-name-in-Ok.ensures
           c.in_ok-push-in-Ok.ensures.others c.loop-next.invariant.others;
     }
@@ -25,7 +26,7 @@ pub returns-in-Err-clause-value : goal.returns-in-Err-clause-value
 returns-in-Err-clause-value c =
     let moves = rw c.in-Err.is at c.in-Some.ensures.steps in
     let is =
-    list_is c.args.bytes.now _ _ (members_stop _ _ _ _ _ moves c.loop-next.invariant.members)
+    list_is c.args.bytes.now _ _ (members_stop _ _ _ _ _ _ moves c.loop-next.invariant.members)
     (others_stop _ _ _ _ _ moves c.loop-next.invariant.others) in
     rw is at c.into_value.ensures
 
@@ -43,7 +44,7 @@ pub returns-clause-value : goal.returns-clause-value
 returns-clause-value c =
     let is =
     list_is c.args.bytes.now _ _
-    (members_end _ _ _ _ c.in_default.ensures.steps c.loop-next.invariant.members)
+    (members_end _ _ _ _ _ c.in_default.ensures.steps c.loop-next.invariant.members)
     (others_end _ _ _ _ c.in_default.ensures.steps c.loop-next.invariant.others) in
     rw is at c.into_value-2.ensures
 

@@ -13,6 +13,8 @@ use Rattle.linkinfo_typed.specs.CanPwm.{can_pwm_rows}
 use Rattle.linkinfo_typed.specs.CanTdc.{can_tdc_rows}
 use Rattle.linkinfo_typed.specs.Dsa.{dsa_rows}
 use Rattle.linkinfo_typed.specs.Hsr.{hsr_rows}
+use Rattle.linkinfo_typed.specs.Ovpn.{ovpn_rows}
+use Rattle.linkinfo_typed.specs.Ppp.{ppp_rows}
 use Rattle.linkinfo_typed.specs.Qos.{vlan_qos_mapping_rows}
 use Rattle.linkinfo_typed.specs.Tun.{tun_rows}
 use Rattle.linkinfo_typed.specs.Vlan.{vlan_lookup}
@@ -55,6 +57,12 @@ returns-clause-dsa c = λ n. table_lookup dsa_rows n
 
 pub returns-clause-hsr : goal.returns-clause-hsr
 returns-clause-hsr c = λ n. table_lookup hsr_rows n
+
+pub returns-clause-ovpn : goal.returns-clause-ovpn
+returns-clause-ovpn c = λ n. table_lookup ovpn_rows n
+
+pub returns-clause-ppp : goal.returns-clause-ppp
+returns-clause-ppp c = λ n. table_lookup ppp_rows n
 
 pub returns-clause-vlan_qos_mapping : goal.returns-clause-vlan_qos_mapping
 returns-clause-vlan_qos_mapping c = λ n. table_lookup vlan_qos_mapping_rows n

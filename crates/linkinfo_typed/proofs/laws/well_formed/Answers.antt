@@ -13,6 +13,8 @@ use Rattle.linkinfo_typed.specs.Conditions.{
   can_tdc_stated,
   dsa_stated,
   hsr_stated,
+  ovpn_stated,
+  ppp_stated,
   tun_stated,
   vlan_qos_mapping_stated,
   vlan_stated,
@@ -56,6 +58,12 @@ returns-clause-dsa c = dsa_stated
 
 pub returns-clause-hsr : goal.returns-clause-hsr
 returns-clause-hsr c = hsr_stated
+
+pub returns-clause-ovpn : goal.returns-clause-ovpn
+returns-clause-ovpn c = ovpn_stated
+
+pub returns-clause-ppp : goal.returns-clause-ppp
+returns-clause-ppp c = ppp_stated
 
 pub returns-clause-vlan_qos_mapping : goal.returns-clause-vlan_qos_mapping
 returns-clause-vlan_qos_mapping c = vlan_qos_mapping_stated

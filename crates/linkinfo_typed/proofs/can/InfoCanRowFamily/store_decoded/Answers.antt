@@ -3,7 +3,7 @@
 -- value is stored. A search would read the whole table once per row.
 use Rattle.std.proofs.Common.{ap, rules, refl}
 use Rattle.linkinfo_table.specs.FamilyRowLaws.{no_row_read, row_stored}
-use Rattle.linkinfo_typed.specs.declared.can.InfoCan.TheVariants.{State, CtrlMode, Other}
+use Rattle.linkinfo_typed.specs.declared.can.InfoCan.TheVariants.{Clock, State, CtrlMode, Other}
 use Rattle.linkinfo_typed.specs.Can.{can_plain, can_rows, can_suits}
 use Rattle.linkinfo_typed.proofs.can.InfoCanRowFamily.store_decoded.Goals as goal
 
@@ -22,14 +22,14 @@ unreachable-store_by_rows g c =
 pub returns-in-3 : goal.returns-in-3
 returns-in-3 g c =
     row_stored (g.P.Slot.with c.args.slot.now) (λ d. Other d) _ _ _ (λ n. can_rows n) refl
-    c.in-Typed-store_by_rows.is c.in-3.is c.requires c.store_by_rows-u32_or_zero.ensures.le32.0 refl
-    c.store_by_rows-store-in-3.ensures
+    c.in-Typed-store_by_rows.is c.in-3.is c.requires c.store_by_rows-u32_or_zero.ensures.le32.0
+    (ap (λ x. Clock x) c.store_by_rows-from.ensures) c.store_by_rows-store-in-3.ensures
 
 pub returns-in-4 : goal.returns-in-4
 returns-in-4 g c =
     row_stored (g.P.Slot.with c.args.slot.now) (λ d. Other d) _ _ _ (λ n. can_rows n) refl
     c.in-Typed-store_by_rows.is c.in-4.is c.requires c.store_by_rows-u32_or_zero-in-4.ensures.le32.0
-    (ap (λ x. State x) c.store_by_rows-from.ensures) c.store_by_rows-store-in-4.ensures
+    (ap (λ x. State x) c.store_by_rows-from-in-4.ensures) c.store_by_rows-store-in-4.ensures
 
 pub returns-in-5 : goal.returns-in-5
 returns-in-5 g c =

@@ -1,0 +1,2 @@
+mod FlagReading
+mod FlagText
