@@ -520,15 +520,16 @@ struct linkinfo_unmet {
  * mapping of priorities of a VLAN, which a request adds, is met by an equal
  * one, in any order. Lists of shape SELF_LIST, V4_LIST and V6_LIST, and data
  * that is no list, as that of veth and vxcan, are compared as a whole, with
- * their order. The flag bits of known types in nested lists do not matter,
- * those of unknown types do.
+ * their order. The flag bits of types in lists of shape NESTED do not matter;
+ * of SELF_LIST those of known types do not, and those of unknown types do.
  *
  * Return: the first attribute of the request that is not met, or the error of a
  * list.
  * Time: linear; three passes over the lists for types below 64, which are all
  * of the kernel's, and three more for each further 64 up to the largest type of
  * the request. Mappings of priorities take the product of the lengths of both
- * lists: the longest that fit, 5,460 mappings each, take half a second.
+ * lists: the longest that fit, 5,460 mappings each, take some
+ * 0.2 to 0.5 seconds.
  * Threads: MT-Safe.
  */
 LINKINFO_NODISCARD struct linkinfo_unmet
@@ -714,8 +715,10 @@ enum linkinfo_shape {
   LINKINFO_SHAPE_IP = 17,        /* an address of either version */
   LINKINFO_SHAPE_MAC = 18,       /* a hardware address of six bytes */
   LINKINFO_SHAPE_BE_PAIR = 19,   /* two big-endian numbers of two bytes */
-  LINKINFO_SHAPE_FLAG_PAIR = 20, /* flags and their mask, little-endian, four
-                                    bytes each */
+  LINKINFO_SHAPE_FLAG_PAIR = 20, /* two little-endian numbers of four bytes:
+                                    flags and their mask; of IFLA_CAN_CTRLMODE
+                                    the mask is first, and of a mapping of
+                                    priorities they are from and to */
   LINKINFO_SHAPE_EMPTY_OR_BYTE = 21, /* nothing or one byte */
   LINKINFO_SHAPE_SCRUB = 22,     /* a little-endian number of four bytes: 0 is
                                     no scrubbing */
@@ -803,8 +806,7 @@ enum linkinfo_value_type {
   LINKINFO_VALUE_IPV4 = 6,    /* octets, 4: V4, GENEVE_V4, IP */
   LINKINFO_VALUE_IPV6 = 7,    /* octets, 16: V6, GENEVE_V6, IP */
   LINKINFO_VALUE_MAC = 8,     /* octets, 6: MAC */
-  LINKINFO_VALUE_PAIR = 9,    /* first and second: BE_PAIR, and FLAG_PAIR, flags
-                                 and mask */
+  LINKINFO_VALUE_PAIR = 9,    /* first and second: BE_PAIR, and FLAG_PAIR */
   LINKINFO_VALUE_LIST = 10,   /* length and list_kind: SELF_LIST, NESTED,
                                  V4_LIST and V6_LIST, the payload, whose
                                  attributes are those of another call; they may
@@ -823,8 +825,10 @@ struct linkinfo_value {
                           a list or bytes */
   uint8_t octets[16];  /* of the address, in network byte order, followed by
                           zeros */
-  uint32_t first;      /* of a pair; the flags */
-  uint32_t second;     /* of a pair; the mask of the flags */
+  uint32_t first;      /* of a pair; the flags, but of IFLA_CAN_CTRLMODE the
+                          mask */
+  uint32_t second;     /* of a pair; the mask, but of IFLA_CAN_CTRLMODE the
+                          flags */
   uint32_t value_type; /* enum linkinfo_value_type */
   uint16_t list_kind;  /* enum linkinfo_list_kind, of a list */
   bool truth;
@@ -994,7 +998,9 @@ enum linkinfo_attribute_use {
                                       rejected, or it is ignored there */
   LINKINFO_USE_COMMAND = 3,        /* a request with it makes the kernel do
                                       something, and no reply has it */
-  LINKINFO_USE_NEVER_RETURNED = 4  /* a request sets it, and no reply has it */
+  LINKINFO_USE_NEVER_RETURNED = 4  /* a request sets it, and no reply has it;
+                                      IFLA_BRPORT_LEARNING_SYNC is ignored in
+                                      requests too */
 };
 
 /*

@@ -121,6 +121,8 @@ static const struct {
     {LINKINFO_KIND_CAN, {35, 0, 1, 0}, NONE},
     {LINKINFO_KIND_CAN, {52, 0, 2, 0}, BYTES(48)},
     {LINKINFO_KIND_CAN, {36, 0, 2, 0}, NONE},
+    /* IFLA_CAN_CTRLMODE: the mask, then the flags */
+    {LINKINFO_KIND_CAN, {12, 0, 5, 0, 3, 0, 0, 0, 0x20}, PAIR(3, 0x20)},
     {LINKINFO_KIND_CAN, {8, 0, 8, 0, 1, 0, 2}, BYTES(4)},
     {LINKINFO_KIND_CAN, {6, 0, 8, 0, 1}, NONE},
     /* IFLA_CAN_TERMINATION_CONST, IFLA_CAN_BITRATE_CONST: any number of numbers */
