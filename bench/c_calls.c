@@ -1,5 +1,5 @@
-// The calls of linkinfo.h and the same calls of the library, on the lists of a file: nanoseconds,
-// the minimum of many interleaved measurements.
+// The calls of linkinfo.h and the same calls of the library's module `typed`, on the lists of a
+// file: nanoseconds, the minimum of many interleaved measurements.
 //
 //   c_calls LISTS ROUNDS
 #include "linkinfo.h"
