@@ -5,8 +5,9 @@
  * liblinkinfo reads, checks, compares and canonicalizes link info: the contents
  * of IFLA_LINKINFO (linux/if_link.h), the nested attribute of rtnetlink link
  * messages that names the kind of a network link and has its attributes. It
- * does not build lists, and has neither sockets nor messages. docs/C.md of its
- * repository says what is proved of each build and what is tested.
+ * finds link info in the bytes of a netlink socket. It builds neither lists nor
+ * messages, and has no sockets. docs/C.md of its repository says what is proved
+ * of each build and what is tested.
  *
  *   #include <linkinfo.h>
  *   #include <stdio.h>
@@ -638,6 +639,24 @@ struct linkinfo_count_result {
 LINKINFO_NODISCARD struct linkinfo_count_result
 linkinfo_count(const uint8_t *bytes, size_t length);
 
+/*
+ * linkinfo_count_opaque - validates a list, and counts the headers that this
+ * examines, with bonds, bridges and their like opaque
+ * @bytes: the list
+ * @length: its length in bytes
+ *
+ * As linkinfo_count, but attributes of bond, bridge, can, dsa, hsr, tun and
+ * vlan links, and of ports of bonds and bridges, are kept as bytes: of these
+ * the headers of the attributes are counted, and none inside them.
+ *
+ * Return: the error that linkinfo_check_inner_opaque returns, and the number of
+ * headers up to it.
+ * Time: linear; each header is examined once.
+ * Threads: MT-Safe.
+ */
+LINKINFO_NODISCARD struct linkinfo_count_result
+linkinfo_count_opaque(const uint8_t *bytes, size_t length);
+
 /* An attribute of the list. */
 struct linkinfo_item {
   size_t place;       /* the offset of its header; its payload is four bytes
@@ -690,7 +709,7 @@ linkinfo_items(const uint8_t *LINKINFO_RESTRICT bytes, size_t length,
                struct linkinfo_item *LINKINFO_RESTRICT items,
                size_t items_length);
 
-/* The shape of the payload of an attribute in data. */
+/* The shape of the payload of an attribute, in data or of the list. */
 enum linkinfo_shape {
   LINKINFO_SHAPE_NONE = 0,  /* the type has no known shape: the attribute is
                                opaque */
@@ -834,7 +853,7 @@ struct linkinfo_value {
   bool truth;
 };
 
-/* An attribute in data or port data, with its value. */
+/* An attribute in data or port data, or of the list, with its value. */
 struct linkinfo_valued_attribute {
   size_t place;                /* the offset of its header in the data; its
                                   payload is four bytes after that */
@@ -872,6 +891,143 @@ linkinfo_values(const uint8_t *LINKINFO_RESTRICT bytes, size_t length,
                 uint16_t kind,
                 struct linkinfo_valued_attribute *LINKINFO_RESTRICT values,
                 size_t values_length);
+
+/* The attribute at an offset in a list, with its value. */
+struct linkinfo_placed_value {
+  struct linkinfo_valued_attribute attribute; /* its place is the offset in the
+                                                 list; 0 if is_found is false */
+  uint16_t family; /* enum linkinfo_family: LINKINFO_FAMILY_LINKINFO of an
+                      attribute of the list */
+  bool is_found;
+};
+
+/*
+ * linkinfo_value_at - returns the attribute at an offset in a list, with its
+ * value
+ * @bytes: the list
+ * @length: its length in bytes
+ * @offset: the offset of the attribute's header in the list: an offset of
+ *          struct linkinfo_unmet or linkinfo_difference, or inner of struct
+ *          linkinfo_inner_error if an attribute has the error
+ *
+ * The attribute is one of the list, of data or port data, or of a list nested
+ * there. The payload of a name is a text, that of data and of statistics bytes,
+ * and an attribute of an unknown type has no value.
+ *
+ * Both values of an attribute that a link does not meet:
+ *
+ *   if (unmet.rejected == 0 && !unmet.met)
+ *     wanted = linkinfo_value_at(want, want_length, unmet.want);
+ *   if (unmet.is_present)
+ *     present = linkinfo_value_at(have, have_length, unmet.have);
+ *
+ * Return: the attribute; is_found is false if none begins at the offset, as at
+ * that of an element of a list of addresses.
+ * Time: linear; no payload is examined but those of names before the offset,
+ * those around it, and the attribute's own.
+ * Threads: MT-Safe.
+ */
+LINKINFO_NODISCARD struct linkinfo_placed_value
+linkinfo_value_at(const uint8_t *bytes, size_t length, size_t offset);
+
+/* The outcome of linkinfo_next_link. */
+enum linkinfo_link_status {
+  LINKINFO_LINK_END = 0,     /* no link message is left */
+  LINKINFO_LINK_FOUND = 1,   /* a link message */
+  LINKINFO_LINK_REJECTED = 2 /* a message is rejected */
+};
+
+/* What has happened to a link. */
+enum linkinfo_link_event {
+  LINKINFO_EVENT_NONE = 0,   /* no link message */
+  LINKINFO_EVENT_NEW = 1,    /* RTM_NEWLINK: the link is new, has changed, or is
+                                part of a dump */
+  LINKINFO_EVENT_DELETED = 2 /* RTM_DELLINK: the link is deleted */
+};
+
+/* What is wrong with a message. */
+enum linkinfo_message_cause {
+  LINKINFO_MESSAGE_CAUSE_NONE = 0,
+  LINKINFO_MESSAGE_CAUSE_HEADER = 1, /* fewer than 16 bytes are left, the length
+                                        of struct nlmsghdr */
+  LINKINFO_MESSAGE_CAUSE_SHORT = 2,  /* nlmsg_len is less than 16 */
+  LINKINFO_MESSAGE_CAUSE_LONG = 3,   /* nlmsg_len exceeds the bytes that are
+                                        left */
+  LINKINFO_MESSAGE_CAUSE_LINK_HEADER = 4, /* a link message whose nlmsg_len has
+                                             no room for struct ifinfomsg */
+  LINKINFO_MESSAGE_CAUSE_ATTRIBUTE = 5    /* a link message with an attribute
+                                             whose header is not accepted */
+};
+
+/* An error of a message. With cause 0 there is none, and place and length are 0
+ * too. */
+struct linkinfo_message_error {
+  size_t place;    /* with cause ATTRIBUTE, the offset at which no header of an
+                      attribute is accepted; else the offset of the message */
+  uint32_t length; /* with causes SHORT, LONG and LINK_HEADER, nlmsg_len; else
+                      0 */
+  uint32_t cause;  /* enum linkinfo_message_cause */
+};
+
+/* A link message, or why there is none. All offsets are from the beginning of
+ * the bytes. */
+struct linkinfo_link {
+  struct linkinfo_message_error error; /* with status REJECTED; else none */
+  size_t place;       /* the offset of the struct nlmsghdr of the link message,
+                         or of the one that is rejected; 0 with status END */
+  size_t next;        /* the cursor of the next call: after a link message the
+                         offset of the next message; with any other status the
+                         number of bytes */
+  size_t name_place;  /* where has_name, the offset of the name: the payload of
+                         IFLA_IFNAME; else 0 */
+  size_t name_length; /* its length, without its closing NUL; else 0 */
+  size_t list_place;  /* where has_list, the offset of the list: the payload of
+                         IFLA_LINKINFO; else 0 */
+  size_t list_length; /* its length; else 0 */
+  int32_t index;      /* ifi_index of a link message; else 0 */
+  uint32_t flags;     /* ifi_flags of a link message; else 0 */
+  uint32_t status;    /* enum linkinfo_link_status */
+  uint16_t event;     /* enum linkinfo_link_event */
+  bool has_name;      /* whether there is an IFLA_IFNAME, also an empty one */
+  bool has_list;      /* whether there is an IFLA_LINKINFO, also an empty one */
+};
+
+/*
+ * linkinfo_next_link - finds the next link message in the bytes of a netlink
+ * socket
+ * @bytes: what recv() returned from a socket of NETLINK_ROUTE, or several such
+ * strings concatenated, each but the last padded to a multiple of four bytes
+ * @length: their length in bytes
+ * @cursor: 0 at first, then the member next of each result
+ *
+ * Messages of types other than RTM_NEWLINK and RTM_DELLINK are skipped, also
+ * NLMSG_ERROR and NLMSG_DONE, which with NLM_F_DUMP_INTR are the caller's. Of
+ * an attribute that is there several times the last one counts, as in the
+ * kernel. The padding of the last message may be absent or cut short. The
+ * contents of the list are not examined: without one, list_length is 0, and
+ * linkinfo_check accepts it.
+ *
+ *   size_t cursor = 0;
+ *   struct linkinfo_link link;
+ *   while ((link = linkinfo_next_link(bytes, length, cursor)).status ==
+ *          LINKINFO_LINK_FOUND) {
+ *     error = linkinfo_check(bytes + link.list_place, link.list_length);
+ *     cursor = link.next;
+ *   }
+ *
+ * The calls of such a loop return each link message once, in order, then the
+ * first error, if there is one, and then the end. With a cursor that is length
+ * or more the result is the end. With a cursor that is not the offset of a
+ * message, the bytes there are read as a message.
+ *
+ * Return: the first link message at the cursor or after it; the error of a
+ * message, if that comes first; or the end.
+ * Time: linear in the bytes from the cursor to next, or to the error. Each
+ * header there is examined once.
+ * Threads: MT-Safe.
+ */
+LINKINFO_NODISCARD struct linkinfo_link
+linkinfo_next_link(const uint8_t *bytes, size_t length, size_t cursor);
 
 /* Texts. Each call writes a text and a NUL, truncated where the buffer has no
  * room for both, and returns the length of the whole text without the NUL, as
@@ -969,6 +1125,26 @@ size_t linkinfo_error_text(struct linkinfo_error error, char *buffer,
  */
 size_t linkinfo_error_message(struct linkinfo_error error, size_t offset,
                               char *buffer, size_t buffer_length);
+
+/*
+ * linkinfo_message_error_text - an error of a message as a sentence for people
+ * @error: the error
+ * @place: the offset of the message: the member place of the struct
+ * linkinfo_link that has the error
+ * @buffer: where the sentence and a NUL are written, truncated to the buffer;
+ * 97 bytes are enough
+ * @buffer_length: its length in bytes
+ *
+ * The sentence is as "message at offset 48: its length 12 is less than that of
+ * its header". It is empty without an error, and for a number that is no cause.
+ *
+ * Return: the length of the whole sentence without the NUL, as snprintf.
+ * Time: constant.
+ * Threads: MT-Safe.
+ */
+size_t linkinfo_message_error_text(struct linkinfo_message_error error,
+                                   size_t place, char *buffer,
+                                   size_t buffer_length);
 
 /*
  * linkinfo_attribute_name - the kernel's name of an attribute's type

@@ -52,10 +52,11 @@ CALLER static void list(const uint8_t *page) { sink += linkinfo_items(page, PAGE
 CALLER static void value(const uint8_t *page) {
   sink += linkinfo_values(page, PAGE, LINKINFO_KIND_VXLAN, values, 8).count;
 }
+CALLER static void message(const uint8_t *page) { sink += linkinfo_next_link(page, PAGE, 0).next; }
 
 int main(void) {
-  static void (*const calls[])(const uint8_t *) = {check, check_inner, same,  unmet, difference,
-                                                   canon, count,       list, value};
+  static void (*const calls[])(const uint8_t *) = {check, check_inner, same, unmet, difference,
+                                                   canon, count,       list, value, message};
   uint8_t *page = mmap(NULL, PAGE, PROT_NONE, MAP_PRIVATE | MAP_ANONYMOUS, -1, 0);
   if (page == MAP_FAILED || signal(SIGSEGV, handler) == SIG_ERR) return 1;
   for (volatile size_t i = 0; i < sizeof calls / sizeof *calls; i++) {

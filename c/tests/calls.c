@@ -3,6 +3,7 @@
  * guard bytes precede them. */
 #define _DEFAULT_SOURCE
 #include "linkinfo.h"
+#include "messages.h"
 #include "strings.h"
 #include "values.h"
 #include <sys/mman.h>
@@ -169,6 +170,9 @@ static void no_bytes(void) {
   CHECK(is_none(unmet.error) && unmet.met && no_attribute(&unmet));
   canon = linkinfo_canon_opaque(NULL, 0, NULL, 0);
   CHECK(is_none(canon.error) && canon.status == LINKINFO_CANON_WRITTEN && canon.length == 0);
+  struct linkinfo_link link = linkinfo_next_link(NULL, 0, 0);
+  CHECK(link.status == LINKINFO_LINK_END && link.next == 0);
+  CHECK(linkinfo_message_error_text(link.error, 0, NULL, 0) == 0);
   CHECK(linkinfo_kind_of_name(NULL, 0) == LINKINFO_KIND_OTHER &&
         linkinfo_port_kind_of_name(NULL, 0) == LINKINFO_PORT_KIND_OTHER);
   CHECK(linkinfo_kind_name(LINKINFO_KIND_VXLAN, NULL, 0) == 5 &&
@@ -540,6 +544,11 @@ static void of_string(const uint8_t *bytes, size_t length) {
   CHECK(unmet.rejected == (is_none(error) ? 0u : 1u));
   unmet = linkinfo_first_unmet(bytes, length, NULL, 0);
   CHECK(equal(unmet.error, error) && unmet.met == is_none(error) && no_attribute(&unmet));
+  for (size_t cursor = 0; cursor <= length; cursor += 4) {
+    struct linkinfo_link link = linkinfo_next_link(bytes, length, cursor),
+                         wanted = next_by_rules(bytes, length, cursor);
+    CHECK(equal_links(&link, &wanted));
+  }
   lacks_all(bytes, length, error);
   placed(bytes, length);
   opaque(bytes, length, error);
@@ -635,6 +644,61 @@ static void uses(void) {
   };
   for (size_t i = 0; i < sizeof all / sizeof *all; i++)
     CHECK(linkinfo_attribute_use(all[i].family, all[i].type) == all[i].use);
+}
+
+/* The attribute at each offset of worked lists: of the list, of data, of a nested list, or none. */
+static void values_at_offsets(void) {
+  /* VLAN 5, with the mapping of priority 1 to 2 for frames that are sent */
+  static const uint8_t vlan[] = {
+      9, 0, 1, 0, 'v', 'l', 'a', 'n', 0, 0, 0, 0, 28, 0, 2, 0, 6, 0, 1, 0, 5,
+      0, 0, 0, 16, 0, 3, 0, 12, 0, 1, 0, 1, 0, 0, 0, 2, 0, 0, 0};
+  static const struct {
+    size_t place, length;
+    uint16_t family, type, shape;
+    uint32_t value_type;
+  } all[] = {
+      {0, 5, LINKINFO_FAMILY_LINKINFO, 1, LINKINFO_SHAPE_NAME, LINKINFO_VALUE_TEXT},
+      {12, 24, LINKINFO_FAMILY_LINKINFO, 2, LINKINFO_SHAPE_RAW, LINKINFO_VALUE_BYTES},
+      {16, 2, LINKINFO_FAMILY_VLAN, 1, LINKINFO_SHAPE_LE16, LINKINFO_VALUE_NUMBER},
+      {24, 12, LINKINFO_FAMILY_VLAN, 3, LINKINFO_SHAPE_NESTED, LINKINFO_VALUE_LIST},
+      {28, 8, LINKINFO_FAMILY_VLANQOSMAPPING, 1, LINKINFO_SHAPE_FLAG_PAIR,
+       LINKINFO_VALUE_PAIR},
+  };
+  size_t next = 0;
+  for (size_t offset = 0; offset < sizeof vlan + 8; offset++) {
+    struct linkinfo_placed_value found = linkinfo_value_at(vlan, sizeof vlan, offset);
+    bool is_one = next < sizeof all / sizeof *all && all[next].place == offset;
+    CHECK(found.is_found == is_one);
+    if (!is_one) {
+      static const struct linkinfo_placed_value none;
+      CHECK(found.family == 0 && equal_values(&found.attribute.value, &none.attribute.value));
+      CHECK(found.attribute.length == 0 && found.attribute.raw_type == 0);
+      continue;
+    }
+    CHECK(found.family == all[next].family && found.attribute.place == offset);
+    CHECK(found.attribute.length == all[next].length);
+    CHECK(found.attribute.raw_type == all[next].type && found.attribute.shape == all[next].shape);
+    CHECK(found.attribute.value.value_type == all[next].value_type);
+    next++;
+  }
+  CHECK(next == sizeof all / sizeof *all);
+  struct linkinfo_value id = linkinfo_value_at(vlan, sizeof vlan, 16).attribute.value,
+                        mapping = linkinfo_value_at(vlan, sizeof vlan, 28).attribute.value;
+  CHECK(id.number == 5 && mapping.first == 1 && mapping.second == 2);
+  CHECK(!linkinfo_value_at(vlan, sizeof vlan, SIZE_MAX).is_found);
+  CHECK(!linkinfo_value_at(NULL, 0, 0).is_found);
+}
+
+/* Headers examined: those in a nested list are, where its family is typed. */
+static void counts(void) {
+  /* the mapping of priority 1 to 2 for frames that a VLAN sends: four headers, one nested */
+  static const uint8_t vlan[] = {9, 0, 1, 0, 'v', 'l', 'a', 'n', 0, 0, 0, 0, 20, 0, 2, 0, 16, 0,
+                                 3, 0, 12, 0, 1, 0, 1, 0, 0, 0, 2, 0, 0, 0};
+  struct linkinfo_count_result typed = linkinfo_count(vlan, sizeof vlan),
+                               verbatim = linkinfo_count_opaque(vlan, sizeof vlan);
+  CHECK(is_none(typed.error) && typed.count == 4);
+  CHECK(is_none(verbatim.error) && verbatim.count == 3);
+  CHECK(linkinfo_count_opaque(NULL, 0).count == 0);
 }
 
 /* Sentences of errors, and names of attributes; tests/rows.c has all names. */
@@ -798,6 +862,8 @@ int main(int count, char **arguments) {
   of_strings();
   sentences();
   uses();
+  values_at_offsets();
+  counts();
   texts();
   few_rooms = 0;
   nested();

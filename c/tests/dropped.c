@@ -16,9 +16,12 @@ int main(void) {
   linkinfo_canon(NULL, 0, NULL, 0);
   linkinfo_canon_opaque(NULL, 0, NULL, 0);
   linkinfo_count(NULL, 0);
+  linkinfo_count_opaque(NULL, 0);
   linkinfo_items(NULL, 0, NULL, 0);
   linkinfo_attributes(NULL, 0, 0, NULL, 0);
   linkinfo_values(NULL, 0, 0, NULL, 0);
+  linkinfo_value_at(NULL, 0, 0);
+  linkinfo_next_link(NULL, 0, 0);
   linkinfo_attribute_use(0, 0);
   linkinfo_kind_of_name(NULL, 0);
   linkinfo_port_kind_of_name(NULL, 0);

@@ -1,6 +1,7 @@
 /* A libFuzzer target: every call over two strings, each at the end of a mapping. */
 #define _DEFAULT_SOURCE
 #include "linkinfo.h"
+#include "messages.h"
 #include "values.h"
 #include <string.h>
 #include <sys/mman.h>
@@ -67,6 +68,15 @@ static void inside(const uint8_t *bytes, size_t length, uint16_t kind) {
   }
 }
 
+/* The attribute at an offset is of this family and type. */
+static void stands_at(const uint8_t *bytes, size_t length, size_t offset, uint16_t family,
+                      uint16_t type) {
+  struct linkinfo_placed_value found = linkinfo_value_at(bytes, length, offset);
+  CHECK(found.is_found && found.family == family && found.attribute.place == offset);
+  CHECK((found.attribute.raw_type & 0x3fff) == type);
+  CHECK(offset + 4 + found.attribute.length <= length);
+}
+
 static struct linkinfo_error one(const uint8_t *bytes, size_t length) {
   static struct linkinfo_item items[ROOM / 4];
   static char text[37];
@@ -90,10 +100,13 @@ static struct linkinfo_error one(const uint8_t *bytes, size_t length) {
     for (size_t more = 1; more <= 8 && placed.place + more <= length; more++)
       CHECK(linkinfo_check(bytes, placed.place + more).cause != 0);
   }
+  if (error.cause != 0 && error.family != LINKINFO_FAMILY_FRAME)
+    stands_at(bytes, length, inner.inner, error.family, error.type);
   seen(error.cause, error.family, error.type % 64);
   for (size_t i = 0; i < found.count; i++) {
     CHECK(items[i].place + 4 + items[i].length <= length);
     uint16_t type = items[i].raw_type & 0x3fff;
+    stands_at(bytes, length, items[i].place, LINKINFO_FAMILY_LINKINFO, type);
     if (type == 2 || type == 5)
       inside(bytes + items[i].place + 4, items[i].length,
              type == 2 ? items[i].kind : items[i].port_kind);
@@ -110,6 +123,10 @@ static void opaque(const uint8_t *a, size_t a_length, const uint8_t *b, size_t b
   struct linkinfo_inner_error found = linkinfo_check_inner_opaque(a, a_length);
   CHECK(found.inner >= found.place && found.inner <= a_length);
   CHECK(x.cause != 0 || found.error.cause == 0);
+  struct linkinfo_count_result count = linkinfo_count_opaque(a, a_length);
+  CHECK(memcmp(&count.error, &found.error, sizeof count.error) == 0);
+  CHECK(count.count <= a_length / 4);
+  CHECK(x.cause != 0 || count.count <= linkinfo_count(a, a_length).count);
   struct linkinfo_same_result verbatim = linkinfo_same_opaque(a, a_length, b, b_length);
   struct linkinfo_difference differ = linkinfo_first_difference_opaque(a, a_length, b, b_length);
   struct linkinfo_unmet unmet = linkinfo_first_unmet_opaque(a, a_length, b, b_length);
@@ -148,6 +165,32 @@ static size_t canonical(const uint8_t *bytes, size_t length, struct linkinfo_err
   return canon.length;
 }
 
+/* The link messages of the bytes of a socket, one after another, by the rules of the kernel's
+ * headers; and what is read at a cursor inside a message. */
+static void messages(const uint8_t *bytes, size_t length) {
+  struct linkinfo_link link, wanted;
+  char text[97];
+  size_t cursor = 0;
+  do {
+    link = linkinfo_next_link(bytes, length, cursor);
+    wanted = next_by_rules(bytes, length, cursor);
+    CHECK(equal_links(&link, &wanted));
+    CHECK(link.next <= length && (link.status != LINKINFO_LINK_FOUND || link.next > cursor));
+    CHECK(link.name_place + link.name_length <= length &&
+          link.list_place + link.list_length <= length);
+    CHECK((linkinfo_message_error_text(link.error, link.place, text, sizeof text) > 0) ==
+          (link.status == LINKINFO_LINK_REJECTED));
+    seen(800u + link.status, link.event * 4u + link.has_name * 2u + link.has_list,
+         link.error.cause);
+    cursor = link.next;
+  } while (link.status == LINKINFO_LINK_FOUND);
+  for (cursor = 1; cursor < length; cursor *= 3) {
+    link = linkinfo_next_link(bytes, length, cursor);
+    wanted = next_by_rules(bytes, length, cursor);
+    CHECK(equal_links(&link, &wanted));
+  }
+}
+
 int LLVMFuzzerTestOneInput(const uint8_t *data, size_t size) {
   static uint8_t *first_end, *second_end;
   if (!first_end) {
@@ -160,6 +203,7 @@ int LLVMFuzzerTestOneInput(const uint8_t *data, size_t size) {
   uint8_t *a = first_end - cut, *b = second_end - (rest - cut);
   memcpy(a, data + 2, cut);
   memcpy(b, data + 2 + cut, rest - cut);
+  messages(a, cut);
   struct linkinfo_error x = one(a, cut), y = one(b, rest - cut);
   struct linkinfo_same_result same = linkinfo_same(a, cut, b, rest - cut),
                               swapped = linkinfo_same(b, rest - cut, a, cut);
@@ -175,6 +219,9 @@ int LLVMFuzzerTestOneInput(const uint8_t *data, size_t size) {
   CHECK((differ.family != 0) == (differ.rejected == 0 && !differ.same));
   CHECK(differ.is_in_first ? differ.first + 4 <= cut : differ.first == 0);
   CHECK(differ.is_in_second ? differ.second + 4 <= rest - cut : differ.second == 0);
+  if (differ.is_in_first) stands_at(a, cut, differ.first, differ.family, differ.type);
+  else if (differ.is_in_second)
+    stands_at(b, rest - cut, differ.second, differ.family, differ.type);
   seen(700u, differ.family, differ.type % 64);
   struct linkinfo_unmet unmet = linkinfo_first_unmet(a, cut, b, rest - cut);
   CHECK(unmet.rejected == same.rejected &&
@@ -182,6 +229,10 @@ int LLVMFuzzerTestOneInput(const uint8_t *data, size_t size) {
   CHECK(!unmet.met || (unmet.rejected == 0 && unmet.family == 0 && !unmet.is_present));
   CHECK(unmet.met || unmet.rejected != 0 || (unmet.family != 0 && unmet.want + 4 <= rest - cut));
   CHECK(unmet.is_present ? unmet.have + 4 <= cut : unmet.have == 0);
+  if (unmet.family != 0) stands_at(b, rest - cut, unmet.want, unmet.family, unmet.type);
+  if (unmet.is_present) stands_at(a, cut, unmet.have, unmet.family, unmet.type);
+  for (size_t offset = cut; offset < cut + 4; offset++)
+    CHECK(!linkinfo_value_at(a, cut, offset).is_found);
   CHECK(linkinfo_first_unmet(a, cut, a, cut).met == (x.cause == 0) && (!same.same || unmet.met));
   seen(900u, unmet.family, unmet.type % 64);
   opaque(a, cut, b, rest - cut, x, y, same.same);

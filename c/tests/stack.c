@@ -73,6 +73,7 @@ static void *opaque(void *wrong) {
   memcpy(other, list, sizeof list);
   header(other + sizeof list - 4, 4, 4);
   return linkinfo_check_inner_opaque(other, sizeof other).inner == sizeof list - 4 &&
+                 linkinfo_count_opaque(list, sizeof list).count == 2 + LISTS &&
                  linkinfo_same_opaque(list, sizeof list, other, sizeof other).rejected == 2 &&
                  linkinfo_canon_opaque(list, sizeof list, buffer, sizeof buffer).length ==
                      sizeof list
@@ -115,7 +116,24 @@ static void *values(void *wrong) {
   struct linkinfo_valued_attribute found[2];
   struct linkinfo_list_result all =
       linkinfo_values(list + 16, sizeof list - 16, LINKINFO_KIND_MACVLAN, found, 2);
-  return all.count == 1 && found[0].value.value_type == LINKINFO_VALUE_LIST ? NULL : wrong;
+  struct linkinfo_placed_value deepest = linkinfo_value_at(list, sizeof list, sizeof list - 4);
+  return all.count == 1 && found[0].value.value_type == LINKINFO_VALUE_LIST &&
+                 deepest.is_found && deepest.attribute.length == 0
+             ? NULL
+             : wrong;
+}
+static void *next_link(void *wrong) {
+  uint8_t message[36 + sizeof list] = {(uint8_t)((36 + sizeof list) % 256),
+                                       (uint8_t)((36 + sizeof list) / 256), 0, 0, 16};
+  header(message + 32, 4 + sizeof list, 18);
+  memcpy(message + 36, list, sizeof list);
+  struct linkinfo_link link = linkinfo_next_link(message, sizeof message, 0);
+  char text[97];
+  struct linkinfo_message_error error = {SIZE_MAX, 0, LINKINFO_MESSAGE_CAUSE_ATTRIBUTE};
+  return link.list_place == 36 && link.list_length == sizeof list &&
+                 linkinfo_message_error_text(error, SIZE_MAX, text, sizeof text) == 96
+             ? NULL
+             : wrong;
 }
 static void *texts(void *wrong) {
   char text[37];
@@ -170,12 +188,13 @@ int main(void) {
                {"check_inner", inner},
                {"count", count},
                {"canon", canon},
-               {"check_inner_opaque, _same_opaque, _canon_opaque", opaque},
+               {"check_inner_opaque, _count_opaque, _same_opaque, _canon_opaque", opaque},
                {"first_difference_opaque, _first_unmet_opaque", opaque_pairs},
                {"check_at", placed},
                {"items", items},
                {"attributes", attributes},
-               {"values", values},
+               {"values, _value_at", values},
+               {"next_link, _message_error_text", next_link},
                {"error_text, _error_message, _family_name, _cause_name, _attribute_name", texts},
                {"kind_name, _kind_of_name, _port_kind_name, _port_kind_of_name", names}};
   int status = 0;

@@ -34,6 +34,28 @@ static int insides_stand(const uint8_t *bytes, const struct linkinfo_item *item)
           (found.count == 0 || (found.place == item->length && attributes[0].place == 0)));
 }
 
+/* Whether the calls over a message with these bytes as its link info have the results that they
+ * have in one thread, also where its last byte is missing. */
+static int messages_stand(const uint8_t *bytes, size_t length) {
+  static const char long_text[] = "message at offset 0: its length ";
+  uint8_t message[36 + MOST_BYTES] = {0};
+  size_t all = 36 + length;
+  const uint8_t header[] = {(uint8_t)(all % 256), (uint8_t)(all / 256), 0, 0, 17},
+                attribute[] = {(uint8_t)((4 + length) % 256), (uint8_t)((4 + length) / 256), 18};
+  memcpy(message, header, sizeof header);
+  memcpy(message + 32, attribute, sizeof attribute);
+  memcpy(message + 36, bytes, length);
+  struct linkinfo_link link = linkinfo_next_link(message, all, 0),
+                       cut = linkinfo_next_link(message, all - 1, 0);
+  char text[97];
+  return link.status == LINKINFO_LINK_FOUND && link.event == LINKINFO_EVENT_DELETED &&
+         link.list_place == 36 && link.list_length == length && link.next == all &&
+         linkinfo_next_link(message, all, link.next).status == LINKINFO_LINK_END &&
+         cut.status == LINKINFO_LINK_REJECTED &&
+         linkinfo_message_error_text(cut.error, cut.place, text, sizeof text) == strlen(text) &&
+         strncmp(text, long_text, sizeof long_text - 1) == 0;
+}
+
 static void *calls(void *unused) {
   (void)unused;
   struct linkinfo_item items[16];
@@ -64,6 +86,7 @@ static void *calls(void *unused) {
            linkinfo_kind_of_name((const char *)bytes + 4, bytes[0] - 5u) != items[1].kind) ||
           (placed.error.cause != 0) != (linkinfo_error_text(placed.error, text, sizeof text) > 0))
         return "a call has another result in a thread";
+      if (!messages_stand(bytes, length)) return "a message has another result in a thread";
       for (size_t at = 0; at < found.count; at++)
         if (!names_stand(&items[at]) || !insides_stand(bytes, &items[at]))
           return "a call of names or attributes has another result in a thread";

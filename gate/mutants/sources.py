@@ -22,9 +22,10 @@ UNSEEN = re.compile(r"^\s*(//.*|#\[inline(\(\w+\))?\])\n", re.M)
 
 
 def words_of(kind):
-    """A type as the check writes it in the name of an impl: `&'a Vec<u8>` is RefVecU8, and
-    `[u8; N]` ArrayU8. Lifetimes and type parameters are left out."""
+    """A type as the check writes it in the name of an impl: `&'a Vec<u8>` is RefVecU8, `[u8; N]`
+    ArrayU8, and `(u8, u16)` Tuple2U8U16. Lifetimes and type parameters are left out."""
     kind = re.sub(r"'\w+", "", kind).replace("&", " Ref ")
+    kind = re.sub(r"\(([^()]+)\)", lambda it: f" Tuple{it[1].count(',') + 1} {it[1]} ", kind)
     kind = re.sub(r"\[([^;\]]+);[^\]]*\]", r" Array \1 ", kind)
     words = [it.split("::")[-1] for it in re.findall(r"[\w:]+", kind)]
     return "".join(it[0].upper() + it[1:] for it in words if not re.fullmatch(r"[A-Z]|mut|dyn", it))
@@ -42,18 +43,19 @@ def closing(text, at):
 
 def block_name(header):
     """The name of an impl or a trait in the paths of its functions: `impl From<u32> for AmtMode`
-    is AmtModeFromU32, and `impl<P> From<Vec<Of<P>>> for List<P>` is ListFrom. The unit is Unit, and
-    a pair Tuple2."""
+    is AmtModeFromU32, and `impl<P> From<Vec<Of<P>>> for List<P>` is ListFrom. The unit is Unit."""
     header = re.sub(r"^(\s*(pub(\([^)]*\))? )?(unsafe )?)", "", header)
     if header.startswith("trait"):
         return re.match(r"trait (\w+)", header)[1]
-    header = re.sub(r"^impl\s*", "", header)
+    header, given = re.sub(r"^impl\s*", "", header), ""
     if header.startswith("<"):
-        header = header[closing(header, 0) + 1 :]
+        given, header = header[: closing(header, 0)], header[closing(header, 0) + 1 :]
     trait, _, kind = header.rpartition(" for ")
     trait = re.sub(r"<[^<>]*<[^<>]*<.*", "", trait)
     if kind.startswith("("):
-        name = f"Tuple{kind.count(',') + 1}" if kind != "()" else "Unit"
+        parameters = re.findall(r"[<,]\s*(\w+)", given)
+        kind = re.sub(r"\w+", lambda it: "" if it[0] in parameters else it[0], kind)
+        name = words_of(kind) if kind != "()" else "Unit"
     else:
         name = words_of(kind.partition("<")[0]) or "Any"
     return name + words_of(trait)

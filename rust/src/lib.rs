@@ -61,8 +61,9 @@
 //!   [`LinkInfoWalk`] borrows them. [`nlas_fit_len`] and [`emit_nlas`] write into a buffer.
 //! - **Validating and comparing encodings**: [`check`], [`check_at`], [`same`], [`same_at`],
 //!   [`first_unmet`] with [`Unmet`], [`first_difference`] with [`Difference`], [`canon`] and
-//!   [`canon_into`]. Those that end in `_of` take another layer, such as another type of peer, and
-//!   those with `counted` a [`HeaderCount`] for the headers examined.
+//!   [`canon_into`]. [`attribute_at`] is the attribute that one of their offsets points to. Those
+//!   that end in `_of` take another layer, such as another type of peer, and those with `counted` a
+//!   [`HeaderCount`] for the headers examined.
 //! - **Errors**: [`DecodeError`] has a [`Family`], a type and a [`Cause`]. [`ErrorAt`] adds the
 //!   offset, and is displayed as a sentence, as [`Explanation`] is. [`ErrorIn`] says which of two
 //!   lists has the error; [`ErrorIn::at`] adds the offset. [`ToVecError`], [`CanonError`] and
@@ -156,6 +157,8 @@ pub use layers::link::{
     check_counted_of, check_of, first_difference, first_difference_of, first_unmet, first_unmet_of,
     same, same_at, same_at_of, same_counted, same_counted_of, same_of,
 };
+#[doc(inline)]
+pub use layers::link::{AttributeAt, attribute_at};
 #[doc(inline)]
 pub use layers::nla_frame::HeaderCount;
 

@@ -71,6 +71,7 @@ def type_row(kind):
         "also": also and also[0], "also_word": also and also[0].lower(),
         "also_of": also and also[1], "true": kind.more.get("true"),
         "false": kind.more.get("false"), "field": fields and fields[0]["field"],
+        "first": fields and fields[0]["field"], "second": fields and fields[-1]["field"],
         "header": header, "number": kind.numbered, "ref": ref, "now": ".now" * bool(ref),
         "alias": kind.more.get("alias"), "hash": ", Hash" * ("hashed" in kind.more),
         "default": default, "others": f', "{others.replace("(n)", "({})")}"' if others else "",

@@ -157,7 +157,6 @@ def outputs(tables):
               "flat": [row for row in ordered if not row["form"]], "Tunnel": groups[2],
               "asked": [{**row, "goal": "of_list-requires" + f"-in-{row['data']}" * (at > 0)}
                         for at, row in enumerate(groups[2])],
-              "typed": [{"family": it} for of in tables.present if of.typed for it in of.families],
               "laws": [row for row in unique(rows, "plain")
                        if row in listed_in and row["form"] != "twin"]}
     return list(places.parts("places", {

@@ -1,3 +1,4 @@
+pub mod AtOffsets
 pub mod Differences
 pub mod Elsewhere
 pub mod Ending
@@ -19,6 +20,7 @@ pub mod Placing
 pub mod Refining
 pub mod Stated
 pub mod Steps
+pub mod Supplied
 pub mod Unmets
 pub mod Walking
 pub mod Whole

@@ -1,5 +1,5 @@
 -- Data that is a list, and data that is none.
-use Rattle.std.specs.Prelude.{◌≡◌, ◌+◌, ℕ, Bool, List, Option, None, Some, refl, unwrap_or}
+use Rattle.std.specs.Prelude.{◌≡◌, ℕ, Bool, List, Option, None, Some, refl}
 use Rattle.std.specs.Option.{option_map}
 use Rattle.std.proofs.Common.{ap, sym, ◌∙◌}
 use Rattle.nla_frame.specs.declared.error.Family.{Family}
@@ -11,7 +11,7 @@ use Rattle.linkinfo_table.specs.Difference.{
 }
 use Rattle.linkinfo_table.specs.Unmet.{inner_unmet, item_unmet}
 use Rattle.linkinfo_table.specs.declared.last.PlacedNla.{PlacedNla}
-use Rattle.linkinfo_data.specs.Lists.{difference_in, error_in, family_in, unmet_in}
+use Rattle.linkinfo_data.specs.Lists.{difference_in, family_in, unmet_in}
 use Rattle.linkinfo.specs.Placed.{error_in_payload}
 use Rattle.linkinfo.specs.Unmet.{contents_unmet}
 use Rattle.nla_frame.specs.declared.error.Family.TheVariants as family

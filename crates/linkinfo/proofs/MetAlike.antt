@@ -1,6 +1,6 @@
 -- Equivalent lists meet one another.
 use Rattle.std.specs.Prelude.{◌≡◌, ℕ, ◌+◌, ◌==◌, ◌&&◌, Bool, true, false, if◌then◌else◌, IsOk}
-use Rattle.std.specs.Prelude.{IsTrue, List, [], ◌∷◌, Option, None, Some, Result, Ok, Err, map}
+use Rattle.std.specs.Prelude.{List, [], ◌∷◌, None, Some, Result, Ok, Err, map}
 use Rattle.std.specs.Prelude.{is_ok, length, refl}
 use Rattle.std.specs.List.{AllZip, list_any}
 use Rattle.std.specs.Str.{bytes_eq}

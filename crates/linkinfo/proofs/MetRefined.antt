@@ -17,7 +17,7 @@ use Rattle.std.specs.Str.{bytes_eq}
 use Rattle.std.proofs.Common.{inl, inr, subst, sym, ap, ◌∙◌}
 use Rattle.std.proofs.lemmas.Slice.Eq.{bytes_eq-Decides}
 use Rattle.nla_frame.specs.Attribute.{Attribute}
-use Rattle.linkinfo_table.specs.Contents.{Contents, ListOf, Listed, single_value}
+use Rattle.linkinfo_table.specs.Contents.{Contents}
 use Rattle.linkinfo_table.specs.Unmet.{meets}
 use Rattle.linkinfo_data.specs.Payloads.{Payload}
 use Rattle.linkinfo_data.specs.Refined.{AreEqual, AreLists, is_set_in}

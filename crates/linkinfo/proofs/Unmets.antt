@@ -2,7 +2,6 @@
 use Rattle.std.specs.Prelude.{
   ◌≡◌,
   ◌≢◌,
-  ◌&&◌,
   ⊤,
   ℕ,
   zero,
@@ -24,36 +23,24 @@ use Rattle.std.specs.Prelude.{
   refl,
 }
 use Rattle.std.specs.Prelude.{Option, None, Some, Result, Ok, Err, IsOk, IfSome, if◌then◌else◌}
-use Rattle.std.specs.List.{AllByRecursion, find}
+use Rattle.std.specs.List.{AllByRecursion}
 use Rattle.std.specs.Option.{option_eq, option_map}
 use Rattle.std.specs.Str.{bytes_eq}
 use Rattle.std.proofs.Common.{arith, sym, ap, subst, ◌∙◌, inl, inr, cond, eqb, ◌||◌}
-use Rattle.std.proofs.lemmas.Bool.{cases_Bool, eqb-true}
+use Rattle.std.proofs.lemmas.Bool.{cases_Bool}
 use Rattle.std.proofs.lemmas.Bool.Decides.{nat_tests}
 use Rattle.nla_frame.specs.Attribute.{Attribute, aligned, masked}
 use Rattle.nla_frame.specs.Payload.{stripped}
 use Rattle.nla_frame.specs.NlaItems.{attribute_at, nla_items}
 use Rattle.nla_frame.specs.declared.error.DecodeError.{DecodeError}
-use Rattle.nla_frame.specs.declared.error.Family.{Family}
 use Rattle.nla_frame.proofs.Stepping.{by_nla_items, nla_items_nil}
 use Rattle.linkinfo_numbers.specs.Kind.{tag_of_name}
 use Rattle.linkinfo_numbers.specs.PortKind.{port_tag_of_name}
 use Rattle.linkinfo_numbers.specs.declared.tags.KindTag.{KindTag}
 use Rattle.linkinfo_numbers.specs.declared.tags.PortTag.{PortTag}
-use Rattle.linkinfo_table.specs.Last.{
-  Indexed,
-  StandsIn,
-  attributes_of,
-  covers,
-  has_type,
-  indexed_last,
-  last_of_type,
-  offset_of,
-  placed_from,
-  types_end,
-}
+use Rattle.linkinfo_table.specs.Last.{StandsIn, attributes_of, placed_from}
 use Rattle.linkinfo_table.specs.declared.last.PlacedNla.{PlacedNla}
-use Rattle.linkinfo_table.proofs.Lasts.{all_stand, last_passes, last_stands, stands_within}
+use Rattle.linkinfo_table.proofs.Lasts.{all_stand, stands_within}
 use Rattle.linkinfo_data.specs.DataFamilies.{DataFamilies, DataTypes}
 use Rattle.linkinfo_table.specs.Unmet.{first_of, whole_unmet}
 use Rattle.linkinfo_table.specs.declared.unmet.Unmet.{Unmet}

@@ -9,8 +9,10 @@ pub mod OneType
 pub mod Layered
 pub mod LinkVariants
 pub mod Met
+pub mod Named
 pub mod Placed
 pub mod Roles
+pub mod Standing
 pub mod Strings
 pub mod Unmet
 pub mod UnmetSteps

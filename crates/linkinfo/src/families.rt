@@ -4,9 +4,11 @@
 
 // Every family has `ListedFamily`, and every layer `LayerFamilies`: they are for contracts alone,
 // as `PlainFamilies` and `Plain`, `TypedFamilies` and `TypedRows` are.
+pub use crate::named::{data_name, port_data_name, shape_under};
 pub use linkinfo_data::{
     DataLayer, Encode, FitLen, Layered, Plain, PlainFamilies, TypedFamilies, TypedRows, Write,
 };
+pub use linkinfo_names::{FamilyNla, list_attribute_at};
 pub use linkinfo_numbers::{KeepsEveryBit, bits_again};
 pub use linkinfo_peers::BitPeer;
 pub use linkinfo_table::{

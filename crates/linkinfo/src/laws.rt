@@ -5,6 +5,7 @@ ghost use Rattle.std.specs.Prelude.{
   ◌≢◌,
   ◌↔◌,
   ℕ,
+  ◌+◌,
   ◌<◌,
   None,
   IsOk,
@@ -13,10 +14,11 @@ ghost use Rattle.std.specs.Prelude.{
   Some,
   Ok,
   Err,
+  length,
   true,
 };
 ghost use Rattle.std.specs.Iterator.{Yields};
-ghost use Rattle.std.specs.List.{AllByRecursion};
+ghost use Rattle.std.specs.List.{AllByRecursion, Contains};
 ghost use Rattle.std.specs.Bool.{Decides};
 ghost use Rattle.nla_frame.specs.Attribute.{
   Attribute,
@@ -29,6 +31,8 @@ ghost use Rattle.nla_frame.specs.Attribute.{
 ghost use Rattle.nla_frame.specs.Error.{memory_error};
 ghost use Rattle.nla_frame.specs.Kept.{kept};
 ghost use Rattle.nla_frame.specs.declared.error.DecodeError.{DecodeError};
+ghost use Rattle.nla_frame.specs.declared.error.Family.TheVariants as family;
+ghost use Rattle.linkinfo_names.specs.Standing.{HasAt};
 ghost use Rattle.linkinfo_table.specs.Readings.{IsDecided};
 ghost use Rattle.linkinfo.specs.BeforePfcp.{
   HasNoPfcpData,
@@ -65,10 +69,16 @@ ghost use Rattle.linkinfo.specs.declared.xstats.LinkXstats.{LinkXstats};
 ghost use Rattle.nla_frame.specs.declared.default_nla.DefaultNla.{DefaultNla};
 ghost use Rattle.linkinfo.specs.declared.role.Role.{Role};
 ghost use Rattle.linkinfo.specs.Difference.{strings_difference};
-ghost use Rattle.linkinfo.specs.Elsewhere.{AnswerAlike, HasNoSuppliedData};
+ghost use Rattle.linkinfo.specs.Elsewhere.{
+  AnswerAlike,
+  HasNoSuppliedData,
+  is_supplied_data,
+  supplied_roles,
+};
 ghost use Rattle.linkinfo.specs.Items.{link_meaning, link_other, link_well};
 ghost use Rattle.linkinfo.specs.Layered.{LinkList, Links};
 ghost use Rattle.linkinfo.specs.Roles.{no_kinds, role_at};
+ghost use Rattle.linkinfo.specs.Standing.{link_shape, link_stands_at, stands_in_role};
 ghost use Rattle.linkinfo.specs.Strings.{
   IsRejected,
   Means,
@@ -89,7 +99,8 @@ use crate::link_info::LinkInfoOf;
 use crate::list::VecLinkInfoOf;
 use crate::walk::{LinkInfoItem, LinkInfoWalk};
 use linkinfo_data::laws::{
-    families_lawful, well_formed as data_well_formed, well_formed_by as data_well_formed_by,
+    families_lawful, families_lawful_by, well_formed as data_well_formed,
+    well_formed_by as data_well_formed_by,
 };
 use linkinfo_data::{DataLayer, Typed};
 use linkinfo_table::layer_laws::lawful;
@@ -198,11 +209,19 @@ pub fn typed_refined(bytes: &[u8])
     refined::<Typed<Bytes>>(bytes);
 }
 
-/// What the lists of two layers of one peer have in common of a byte string without data of a
-/// family that the first one supplies (`HasNoSuppliedData`): every answer (`AnswerAlike`). Both
-/// accept it, or reject it with the same error, after as many headers. It is equivalent to the same
-/// byte strings, has the same first difference from each, and each leaves the same attribute of it
-/// unmet.
+/// What the lists of a layer that supplies families, and those of its peer alone, have in common of
+/// a byte string without data of a family that the first one supplies (`HasNoSuppliedData`): data
+/// of `bond`, `bridge`, `vlan`, `can`, `hsr`, `dsa` and `tun` links, and of ports of `bond` and
+/// `bridge` links (`supplied`).
+///
+/// Both layers accept the byte string, or reject it with the same error at the same offsets, after
+/// as many headers, and parsing it needs memory under both or under neither. If they accept it, it
+/// has the same canonical encoding under both, or its list fits under neither.
+///
+/// Beside each other byte string, as the first or as the second of the two, it is equivalent under
+/// both layers or under neither, and the first difference is the same. If the byte string is
+/// accepted, the first attribute that is not met is the same too (`answers`). The other byte string
+/// may have data of those families, for which one layer can reject it and the other accept it.
 pub fn elsewhere<L: LinkLayer>(bytes: &[u8])
 where
     L::Bond: Supplied,
@@ -214,15 +233,18 @@ where
     L::Tun: Supplied,
     L::BondPort: Supplied,
     L::BridgePort: Supplied,
-    ensures { let families = ⟦<L as LayerFamilies>⟧.families in
+    ensures supplied { (r : Role) → (is_supplied_data r ≡ true) ↔ Contains supplied_roles r }
+    ensures answers { let families = ⟦<L as LayerFamilies>⟧.families in
         HasNoSuppliedData bytes.now →
         AnswerAlike (data_families families) (data_families (peer_families families.peer))
         bytes.now }
-{}
+{
+    families_lawful_by::<L>();
+    families_lawful::<L::Peer>();
+}
 
-/// What the calls of `typed` answer for a byte string without data of bond, bridge, vlan, can, hsr,
-/// dsa and tun links, and of ports of bond and bridge links: what those of the root do, as
-/// `elsewhere` says of layers.
+/// What the calls of `typed` answer for a byte string without data of those families: what those of
+/// the root do, as `elsewhere` says of layers.
 pub fn typed_elsewhere(bytes: &[u8])
     ensures { HasNoSuppliedData bytes.now → AnswerAlike typed_layer bytes_layer bytes.now }
 {
@@ -283,6 +305,18 @@ pub fn differences<P: DataLayer>()
 {
     families_lawful::<P>();
 }
+
+/// What `attribute_at` finds. At the offset of an attribute of the list it is that attribute
+/// (`own`). At an offset inside an attribute of the list it is what its role has there: in data,
+/// and port data, of a kind with a family, what the list of that family has there by
+/// `list_attribute_at`, with the shape of its type under the kind (`inside`).
+pub fn standing()
+    ensures own { (s : List ℕ) (n : ℕ) (a : Attribute) → HasAt s n a → link_stands_at s n
+        ≡ Some (record { family = family.LinkInfo; shape = link_shape (masked a.kind); nla = a }) }
+    ensures inside { (s : List ℕ) (n m : ℕ) (a : Attribute) (has : HasAt s n a) →
+        0 < m → m < 4 + length a.value → link_stands_at s (n + m)
+        ≡ stands_in_role (role_at (kinds_after_all no_kinds has.front) a) a.value m }
+{}
 
 /// Each attribute of a list inside an attribute that fits has at most 65531 bytes of payload, and
 /// so has a first attribute inside one. This is so at every level, since these attributes fit in

@@ -15,8 +15,10 @@ mod item;
 pub mod laws;
 mod link_info;
 mod list;
+mod named;
 mod placed;
 mod role;
+mod standing;
 pub mod typed;
 mod unmet;
 pub mod unmet_laws;
@@ -44,6 +46,7 @@ pub use nla_frame::{
     nlas_fit_len, nlas_to_vec,
 };
 pub use placed::{ErrorAt, ErrorIn, check_at, check_at_of};
+pub use standing::{AttributeAt, attribute_at};
 pub use unmet::{first_unmet, first_unmet_of};
 pub use walk::{LinkInfoItem, LinkInfoWalk};
 pub use xstats::LinkXstats;

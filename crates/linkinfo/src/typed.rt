@@ -86,7 +86,7 @@ pub fn check(bytes: &[u8]) -> Result<(), DecodeError>
 }
 
 /// Validates the contents of `IFLA_LINKINFO` over the typed layer, and returns the offsets of the
-/// error beside it: in data, and in the maps of priorities inside. Does not allocate.
+/// error beside it: in data, and in every list nested in it. Does not allocate.
 pub fn check_at(bytes: &[u8]) -> Result<(), ErrorAt>
     ensures answer { MatchResult result (λ _. IsOk (reading typed_layer bytes.now))
         (λ at. reading typed_layer bytes.now ≡ Err at.error) }

@@ -5,6 +5,7 @@ pub mod CausingData
 pub mod CausingTyped
 pub mod Framed
 pub mod Listing
+pub mod Parts
 pub mod Quarters
 pub mod Sentences
 pub mod Walked

@@ -17,24 +17,18 @@ use Rattle.std.specs.Prelude.{
 }
 use Rattle.nla_frame.specs.Attribute.{Attribute, masked}
 use Rattle.nla_frame.specs.NlaItems.{items_of, nla_items}
-use Rattle.nla_frame.specs.declared.bytes.Bytes.{Bytes}
 use Rattle.nla_frame.specs.declared.error.Cause.{Cause}
 use Rattle.nla_frame.specs.declared.error.DecodeError.{DecodeError}
 use Rattle.nla_frame.specs.declared.error.Family.{Family}
-use Rattle.nla_frame.specs.declared.error.Family.TheVariants as family
 use Rattle.linkinfo_shapes.specs.Data.{Value, number, reads}
-use Rattle.linkinfo_shapes.specs.Typed.{typed_shape_of}
 use Rattle.linkinfo_shapes.specs.declared.shape.Shape.{Shape}
-use Rattle.linkinfo_shapes.specs.declared.shape.Shape.TheVariants.{Be16, Le32, V4, V6}
-use Rattle.linkinfo_table.specs.Layers.{Families}
+use Rattle.linkinfo_shapes.specs.declared.shape.Shape.TheVariants.{V4, V6}
 use Rattle.linkinfo_numbers.specs.declared.tags.KindTag.{KindTag}
-use Rattle.linkinfo_numbers.specs.declared.tags.KindTag.TheVariants as kind
 use Rattle.linkinfo_numbers.specs.declared.tags.PortTag.{PortTag}
 use Rattle.linkinfo_data.specs.Data.{family_of}
 use Rattle.linkinfo_data.specs.Names.{data_name, port_data_name}
-use Rattle.linkinfo_data.specs.Plain.{plain}
 use Rattle.linkinfo_data.specs.PortData.{port_family_of}
-use Rattle.linkinfo_data.specs.TypedTypes.{typed_families, typed_types}
+use Rattle.linkinfo.specs.Named.{shape_under, typed_data}
 use Rattle.linkinfo.specs.Placed.{place_after}
 use Rattle.linkinfo_c.specs.declared.attributes.Contents.{Contents}
 use Rattle.linkinfo_c.specs.declared.attributes.Contents.TheVariants.{Addresses, Attributes}
@@ -50,10 +44,6 @@ use Rattle.linkinfo_c.specs.Codes.{
 use Rattle.linkinfo_c.specs.Items.{attributes_in, code_in, each_after}
 
 -- ---- what the attributes in a payload are; none if data is opaque bytes
-
--- the families that the typed layer supplies
-abbrev pub typed_data : Families (typed_types Bytes)
-typed_data = typed_families plain.bytes_peer
 
 -- attributes of a family, in data of a kind of links if that is known
 abbrev pub of_family : Option Family → Option KindTag → Option Contents
@@ -80,22 +70,9 @@ contents_inside code = contents_among (kind_of_code code) (port_kind_of_code cod
 
 -- ---- shapes and numbers
 
--- the shape of the tunnel flags, by the kind
-abbrev pub flags_shape : Option KindTag → Option Shape
-flags_shape (Some kind.IpIp) = Some Be16
-flags_shape (Some kind.SitTun) = Some Be16
-flags_shape (Some kind.Ip6Tnl) = Some Le32
-flags_shape _ = None
-
--- the shape of a masked type, if it has one
-abbrev pub shape_of_family : Family → Option KindTag → ℕ → Option Shape
-shape_of_family family.IpTunnel tag n =
-    if n == 8 then flags_shape tag else typed_shape_of family.IpTunnel n
-shape_of_family f tag n = typed_shape_of f n
-
 -- each address of a list has the same shape
 abbrev pub shape_in : Contents → ℕ → Option Shape
-shape_in (Attributes f tag) n = shape_of_family f tag n
+shape_in (Attributes f tag) n = shape_under tag f n
 shape_in (Addresses shape) n = Some shape
 
 -- what a payload means under a shape that accepts it; a list and a peer mean no value

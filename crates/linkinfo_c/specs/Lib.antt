@@ -7,6 +7,7 @@ pub mod Codes
 pub mod Difference
 pub mod Errors
 pub mod Items
+pub mod Messages
 pub mod Texts
 pub mod Unmet
 pub mod Usage

@@ -33,12 +33,15 @@ use Rattle.linkinfo_shapes.specs.declared.shape.Shape.TheVariants.{
   V4List,
   V6List,
 }
+use Rattle.linkinfo.specs.declared.standing.AttributeAt.{AttributeAt}
 use Rattle.linkinfo_c.specs.declared.attributes.Contents.{Contents}
+use Rattle.linkinfo_c.specs.declared.values.LinkinfoPlacedValue.{LinkinfoPlacedValue}
 use Rattle.linkinfo_c.specs.declared.values.LinkinfoValue.{LinkinfoValue}
 use Rattle.linkinfo_c.specs.declared.values.LinkinfoValuedAttribute.{LinkinfoValuedAttribute}
 use Rattle.linkinfo_c.specs.Attributes.{datum_in, records_inside}
 use Rattle.linkinfo_c.specs.Buffers.{with_front}
 use Rattle.linkinfo_c.specs.Codes.{
+  family_code,
   list_code,
   list_v4,
   list_v6,
@@ -162,3 +165,18 @@ value_at place shape a = record {
 
 abbrev pub values_inside : Option Contents → List ℕ → List LinkinfoValuedAttribute
 values_inside contents s = records_inside value_at contents s
+
+-- ---- at an offset
+
+-- the record of the attribute at an offset in a list, if there is one
+abbrev pub placed_value : ℕ → Option AttributeAt → LinkinfoPlacedValue
+placed_value n (Some found) = record {
+  attribute = value_at n found.shape found.nla;
+  family = family_code found.family;
+  is_found = true;
+}
+placed_value n None = record {
+  attribute = record { place = 0; len = 0; value = no_value; raw_kind = 0; shape = 0 };
+  family = 0;
+  is_found = false;
+}

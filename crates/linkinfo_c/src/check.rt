@@ -195,6 +195,20 @@ pub extern "C" fn linkinfo_same_opaque(a: &[u8], b: &[u8]) -> LinkinfoSame
     same_record(same_at_of::<Bytes>(a, b))
 }
 
+/// Validates a list over a layer, and counts the headers examined up to its error.
+fn counted<P: DataLayer>(bytes: &[u8]) -> LinkinfoCount
+    ensures error { result.error ≡ error_or_none (verdict (reading P.families bytes.now)) }
+    ensures count { result.count ≡ headers_of_string P.families bytes.now }
+    ensures quarter { 4 * result.count ≤ length bytes.now }
+{
+    let mut count = HeaderCount::new();
+    let error = error_or_none(check_counted_of::<P>(bytes, &mut count));
+    LinkinfoCount {
+        error,
+        count: count.get(),
+    }
+}
+
 /// Validates a list, and counts the headers examined up to its error: at most a quarter of its
 /// bytes.
 #[unsafe(no_mangle)]
@@ -204,10 +218,17 @@ pub extern "C" fn linkinfo_count(bytes: &[u8]) -> LinkinfoCount
     ensures count { result.count ≡ headers_of_string typed_layer bytes.now }
     ensures quarter { 4 * result.count ≤ length bytes.now }
 {
-    let mut count = HeaderCount::new();
-    let error = error_or_none(check_counted_of::<Typed<Bytes>>(bytes, &mut count));
-    LinkinfoCount {
-        error,
-        count: count.get(),
-    }
+    counted::<Typed<Bytes>>(bytes)
+}
+
+/// Validates a list and counts headers as `linkinfo_count` does, over the layer that keeps
+/// attributes of bonds, bridges and their like verbatim.
+#[unsafe(no_mangle)]
+pub extern "C" fn linkinfo_count_opaque(bytes: &[u8]) -> LinkinfoCount
+    ensures error { result.error ≡ error_or_none (verdict (reading bytes_layer bytes.now)) }
+    ensures cause { IsReturnedCode result.error.cause }
+    ensures count { result.count ≡ headers_of_string bytes_layer bytes.now }
+    ensures quarter { 4 * result.count ≤ length bytes.now }
+{
+    counted::<Bytes>(bytes)
 }

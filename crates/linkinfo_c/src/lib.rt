@@ -9,6 +9,8 @@ mod codes;
 pub mod difference;
 pub mod error;
 pub mod items;
+pub mod laws;
+pub mod messages;
 pub mod texts;
 pub mod unmet;
 pub mod usage;

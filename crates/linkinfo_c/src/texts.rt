@@ -33,7 +33,7 @@ use linkinfo_names::problem;
 
 /// Writes a text and a NUL after it, truncated to the buffer, and returns the length of the whole
 /// text.
-fn write_text(text: &str, buffer: &mut [u8]) -> usize
+pub(crate) fn write_text(text: &str, buffer: &mut [u8]) -> usize
     ensures length { result ≡ length text.now }
     ensures text { buffer.new ≡ with_text text.now buffer.old }
 {

@@ -2,6 +2,7 @@
 
 ghost use Rattle.std.specs.Prelude.{◌≡◌, ◌≤◌, length};
 ghost use Rattle.linkinfo_shapes.specs.Data.{value_of};
+ghost use Rattle.linkinfo.specs.Standing.{link_stands_at};
 ghost use Rattle.linkinfo_c.specs.Arrays.{WritesRecords};
 ghost use Rattle.linkinfo_c.specs.Attributes.{contents_inside, given_inside};
 ghost use Rattle.linkinfo_c.specs.Values.{
@@ -9,6 +10,7 @@ ghost use Rattle.linkinfo_c.specs.Values.{
   address_record,
   bytes_if,
   list_record,
+  placed_value,
   value_at,
   value_in,
   value_record,
@@ -16,10 +18,10 @@ ghost use Rattle.linkinfo_c.specs.Values.{
 };
 
 use crate::attributes::{AttributeRecord, datum_in, write_inside};
-use crate::codes::{V4_LIST, V6_LIST, list_code, shape_code};
+use crate::codes::{V4_LIST, V6_LIST, family_code, list_code, shape_code};
 use crate::items::LinkinfoListResult;
-use linkinfo::NlaBuffer;
 use linkinfo::families::{Datum, Shape};
+use linkinfo::{NlaBuffer, attribute_at};
 
 /// The values of `enum linkinfo_value_type`, from `LINKINFO_VALUE_NONE` on.
 const NONE: u32 = 0;
@@ -249,4 +251,45 @@ pub extern "C" fn linkinfo_values(
         result }
 {
     write_inside(bytes, kind, attributes)
+}
+
+/// `struct linkinfo_placed_value`: the attribute at an offset in a list, and its value.
+#[repr(C)]
+#[derive(Clone, Copy, Debug, PartialEq, Eq)]
+pub struct LinkinfoPlacedValue {
+    /// The attribute, with its offset in the list; all of it 0 if there is none.
+    pub attribute: LinkinfoValuedAttribute,
+    /// The family of the attribute, `enum linkinfo_family`; 0 if there is none.
+    pub family: u16,
+    /// Whether an attribute begins at the offset.
+    pub is_found: bool,
+}
+
+const NO_ATTRIBUTE: LinkinfoPlacedValue = LinkinfoPlacedValue {
+    attribute: LinkinfoValuedAttribute {
+        place: 0,
+        len: 0,
+        value: NO_VALUE,
+        raw_kind: 0,
+        shape: 0,
+    },
+    family: 0,
+    is_found: false,
+};
+
+/// Returns the attribute whose header is at an offset in a list, with its value: one of the list,
+/// of data or port data, or of a list nested there. No attribute is there if none begins at that
+/// offset, also if it is the offset of an element of a list of addresses.
+#[unsafe(no_mangle)]
+pub extern "C" fn linkinfo_value_at(bytes: &[u8], offset: usize) -> LinkinfoPlacedValue
+    ensures { result ≡ placed_value offset (link_stands_at bytes.now offset) }
+{
+    match attribute_at(bytes, offset) {
+        Some(found) => LinkinfoPlacedValue {
+            attribute: LinkinfoValuedAttribute::of_attribute(offset, found.shape, &found.nla),
+            family: family_code(found.family),
+            is_found: true,
+        },
+        None => NO_ATTRIBUTE,
+    }
 }

@@ -375,7 +375,11 @@ module _ {X : Type 0} (f : Family) (other : DefaultNla → X) (attribute : X →
                 (row_if b (Custom shape.SelfList false
                 (inner_codec f other attribute 5 label (λ k. table_row plain k) (λ k. level m k))
                 label) (table_row plain (masked a.kind)))) a))
-            go true = λ h. absurd h
+            go true = record {
+              plain = λ i. absurd i;
+              exact = λ i. absurd i;
+              addresses = λ i. absurd i;
+            }
             go false = flat (masked a.kind)
 
     -- the contents of a type are what its shape says
@@ -503,6 +507,8 @@ module _ {X : Type 0} (f : Family) (other : DefaultNla → X) (attribute : X →
         peer_typed = λ h. absurd (list_no_peer h);
         nest = λ inner h. absurd (list_no_nest inner h);
         exact = λ i. absurd i;
+        exact_accepted = λ i. absurd i;
+        addresses_accepted = λ i. absurd i;
         addresses = λ i. absurd i;
         payload_typed = λ i. absurd i;
       }

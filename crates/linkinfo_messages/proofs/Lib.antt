@@ -2,6 +2,7 @@ pub mod Items
 pub mod Locating
 pub mod Slicing
 pub mod Linking
+pub mod Resuming
 pub mod Capturing
 pub mod Writing
 pub mod Streaming

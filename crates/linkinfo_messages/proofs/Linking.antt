@@ -165,11 +165,11 @@ says_at m =
 -- ---- the links from an offset on
 
 -- at the end there are no messages
-messages_end : (s : List ℕ) (place : ℕ) → length s ≤ place → messages place (drop place s) ≡ []
+pub messages_end : (s : List ℕ) (place : ℕ) → length s ≤ place → messages place (drop place s) ≡ []
 messages_end s place h =
     ap (λ u. messages place u) (drop_all place s h) ∙ items_nil message_at place
 
-messages_first : (s : List ℕ) (place : ℕ) (r : Result (Message × ℕ) MessageError) →
+pub messages_first : (s : List ℕ) (place : ℕ) (r : Result (Message × ℕ) MessageError) →
     place < length s → r ≡ message_at place (drop place s) →
     messages place (drop place s)
     ≡ followed r (λ k. messages (place + k) (drop (place + k) s))
@@ -278,7 +278,8 @@ finds_link s start old place m k new link v some slices =
       advances = omega (arith, at, h.at, h.some);
       within = h.within;
       slices =
-          slices_in (option_copied link.name) (info_seen link.info) m.payload s 0 (place + 16)
+          slices_in (option_copied link.name) link.name_place (info_seen link.info) m.payload s 0
+          (place + 16)
           (m.place + 16) (omega (arith, h.at)) slices h.payload;
       counted = counted_by s start old place m k new (Ok (Some (link_in link))) v some;
       quarter = v.quarter;
@@ -343,9 +344,14 @@ links_of-length ((Ok m) ∷ more) =
     omega (arith, links_before-length (link_of m) (links_of more), links_of-length more)
 links_of-length ((Err e) ∷ more) = omega arith
 
-pub links-bound : (s : List ℕ) → 16 * length (links_from s 0) ≤ length s + 15
-links-bound s =
-    omega (arith, links_of-length (messages 0 s), items-bound message_at takes_some 0 s)
+pub links-bound : (s : List ℕ) (place : ℕ) → 16 * length (links_from s place) ≤ length s + 15
+links-bound s place =
+    omega (
+      arith,
+      links_of-length (messages place (drop place s)),
+      items-bound message_at takes_some place (drop place s),
+      length-drop place s,
+    )
 
 -- ---- one call of the iterator
 

@@ -34,7 +34,14 @@ use Rattle.std.proofs.lemmas.List.{drop_all, length-drop}
 use Rattle.nla_frame.specs.Attribute.{Attribute, aligned, masked}
 use Rattle.nla_frame.specs.NlaItems.{nla_items, headers_in, split, split_up_to}
 use Rattle.nla_frame.specs.Payload.{stripped}
-use Rattle.linkinfo_messages.specs.Links.{located, damaged_at, last_of, name_in, info_in}
+use Rattle.linkinfo_messages.specs.Links.{
+  located,
+  damaged_at,
+  last_of,
+  name_in,
+  name_place_in,
+  info_in,
+}
 use Rattle.nla_frame.specs.Walk.{Walk, unread, headers_left, Passes, Fails}
 
 pub no_items : nla_items [] ≡ []
@@ -115,6 +122,15 @@ name_moves l l' place a old new all e n h =
     ap (option_or (name_in l')) n
     ∙ latest (λ x. stripped x.1.value) (last_of 3 l') (eqb (masked a.kind) 3) (place, a) old
     ∙ ap (λ x. option_or (name_in x) old) (sym e) ∙ h
+
+pub name_place_moves : (l l' : List (ℕ × Attribute)) (place : ℕ) (a : Attribute)
+    (old new all : Option ℕ) → l ≡ (place, a) ∷ l' →
+    new ≡ cond (eqb (masked a.kind) 3) (Some (place + 4)) old →
+    option_or (name_place_in l) old ≡ all → option_or (name_place_in l') new ≡ all
+name_place_moves l l' place a old new all e n h =
+    ap (option_or (name_place_in l')) n
+    ∙ latest (λ x. x.0 + 4) (last_of 3 l') (eqb (masked a.kind) 3) (place, a) old
+    ∙ ap (λ x. option_or (name_place_in x) old) (sym e) ∙ h
 
 pub info_moves : (l l' : List (ℕ × Attribute)) (place : ℕ) (a : Attribute)
     (old new all : Option (ℕ × List ℕ)) → l ≡ (place, a) ∷ l' →

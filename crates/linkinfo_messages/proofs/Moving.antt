@@ -62,6 +62,7 @@ use Rattle.linkinfo_messages.specs.Links.{
   damaged_at,
   last_of,
   name_in,
+  name_place_in,
   info_in,
   link_with,
   unless_damaged,
@@ -86,6 +87,7 @@ use Rattle.linkinfo_messages.specs.Offsets.{
   error_moved,
   info_moved,
   link_moved,
+  name_place_moved,
   record_moved,
   capture_error_moved,
 }
@@ -212,13 +214,20 @@ contents_moved by (Some x) = ap (λ p. Some (p, x.1.value)) (omega arith)
 abbrev said_moved : ℕ → Result (Option Link) MessageError → Result (Option Link) MessageError
 said_moved by r = moved (option_map (link_moved by)) (error_moved by) r
 
-abbrev link_named : LinkEvent → Message → Option (List ℕ) → Option (ℕ × List ℕ) → Link
-link_named event m name info = record {
+name_place_is_moved : (by : ℕ) (o : Option (ℕ × Attribute)) →
+    option_map (λ x. x.0 + 4) (option_map (attribute_moved by) o)
+    ≡ name_place_moved by (option_map (λ x. x.0 + 4) o)
+name_place_is_moved by None = refl
+name_place_is_moved by (Some x) = ap (λ p. Some p) (omega arith)
+
+abbrev link_named : LinkEvent → Message → Option (List ℕ) → Option ℕ → Option (ℕ × List ℕ) → Link
+link_named event m name name_place info = record {
   place = m.place;
   event = event;
   index = cast_signed w32 (le32 m.payload 4);
   flags = le32 m.payload 8;
   name = name;
+  name_place = name_place;
   info = info;
 }
 
@@ -226,10 +235,15 @@ link_with_moved : (by : ℕ) (event : LinkEvent) (m : Message) (l : List (ℕ ×
     link_with event (message_moved by m) (map (attribute_moved by) l)
     ≡ link_moved by (link_with event m l)
 link_with_moved by event m l =
-    ap (λ n. link_named event (message_moved by m) n (info_in (map (attribute_moved by) l)))
+    let l' : List (ℕ × Attribute) = map (attribute_moved by) l in
+    ap (λ n. link_named event (message_moved by m) n (name_place_in l') (info_in l'))
     (ap (λ o. option_map (λ x. stripped x.1.value) o) (last_moved by 3 l)
     ∙ name_unmoved by (last_of 3 l))
-    ∙ ap (λ i. link_named event (message_moved by m) (name_in l) i)
+    ∙ ap (λ p. link_named event (message_moved by m) (name_in l) p (info_in l'))
+    (ap (λ o. option_map (λ x. x.0 + 4) o) (last_moved by 3 l)
+    ∙ name_place_is_moved by (last_of 3 l))
+    ∙ ap (λ i. link_named event (message_moved by m) (name_in l)
+    (name_place_moved by (name_place_in l)) i)
     (ap (λ o. option_map (λ x. (x.0 + 4, x.1.value)) o) (last_moved by 18 l)
     ∙ contents_moved by (last_of 18 l))
 

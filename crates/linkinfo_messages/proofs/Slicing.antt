@@ -6,6 +6,8 @@ use Rattle.std.proofs.Common.{
   ◌-◌,
   ◌≤◌,
   Bool,
+  true,
+  false,
   cond,
   eqb,
   List,
@@ -122,14 +124,22 @@ if_chosen P b x old new e h i =
     subst (λ o. IfSome o P) (sym e)
     (of_choice (λ o. IfSome o P) b (Some x) old (λ _. h) (λ _. i))
 
+-- what holds of two values that are chosen together
+both_chosen : {A B : Type 0} (P : A → Option B → Type 0) (b : Bool) (x : A) (y : B)
+    (old new : Option A) (old' new' : Option B) → new ≡ cond b (Some x) old →
+    new' ≡ cond b (Some y) old' → P x (Some y) → IfSome old (λ a. P a old') →
+    IfSome new (λ a. P a new')
+both_chosen P true x y old new old' new' e f h i = rw (e, f) h
+both_chosen P false x y old new old' new' e f h i = rw (e, f) i
+
 -- with one more attribute
 pub slices_with : (s t : Walk) (a : Attribute) (source : List ℕ) (start place : ℕ) (b c : Bool)
-    (name name' : Option (List ℕ)) (info info' : Option (ℕ × List ℕ)) → Passes s a t →
-    s.source ≡ source → place ≡ start + s.place →
-    name' ≡ cond b (Some (stripped a.value)) name →
+    (name name' : Option (List ℕ)) (at at' : Option ℕ) (info info' : Option (ℕ × List ℕ)) →
+    Passes s a t → s.source ≡ source → place ≡ start + s.place →
+    name' ≡ cond b (Some (stripped a.value)) name → at' ≡ cond b (Some (place + 4)) at →
     info' ≡ cond c (Some (place + 4, a.value)) info →
-    AreSlices name info source start → AreSlices name' info' source start
-slices_with s t a source start place b c name name' info info' h from at e f old =
+    AreSlices name at info source start → AreSlices name' at' info' source start
+slices_with s t a source start place b c name name' o o' info info' h from at e d f old =
     let value : IsSlice a.value s.source (s.place + 4) = record {
       bytes = h.value_is ∙ ap (λ n. slice_range s.source (s.place + 4) n) (omega arith);
       within = omega (arith, room s t a h);
@@ -138,8 +148,12 @@ slices_with s t a source start place b c name name' info info' h from at e f old
     subst (λ x. IsSlice a.value x (s.place + 4)) from value in
     record {
       name_slice =
-          if_chosen (λ n. (at : ℕ) × IsSlice n source at) b (stripped a.value) name name' e
-          (s.place + 4 + 0, slice_in _ _ _ _ _ (stripped_slice a.value) here) old.name_slice;
+          both_chosen (λ n p. (at : ℕ) × (p ≡ Some (start + at)) × IsSlice n source at) b
+          (stripped a.value) (place + 4) name name' o o' e d (
+            s.place + 4 + 0,
+            ap (λ n. Some n) (omega (arith, at)),
+            slice_in _ _ _ _ _ (stripped_slice a.value) here,
+          ) old.name_slice;
       info_slice =
           if_chosen (λ x. (at : ℕ) × (x.0 ≡ start + at) × IsSlice x.1 source at) c
           (place + 4, a.value) info info' f (s.place + 4, omega (arith, at), here) old.info_slice;
@@ -151,14 +165,19 @@ if_mapped P Q f None h = tt
 if_mapped P Q f (Some x) h = f x h
 
 -- in the byte string that has it as a slice
-pub slices_in : (name : Option (List ℕ)) (info : Option (ℕ × List ℕ)) (u s : List ℕ)
-    (start base inner : ℕ) → inner ≡ start + base → AreSlices name info u inner →
-    IsSlice u s base → AreSlices name info s start
-slices_in name info u s start base inner e h i =
+pub slices_in : (name : Option (List ℕ)) (o : Option ℕ) (info : Option (ℕ × List ℕ))
+    (u s : List ℕ) (start base inner : ℕ) → inner ≡ start + base → AreSlices name o info u inner →
+    IsSlice u s base → AreSlices name o info s start
+slices_in name o info u s start base inner e h i =
     record {
       name_slice =
-          if_mapped (λ n. (at : ℕ) × IsSlice n u at) (λ n. (at : ℕ) × IsSlice n s at)
-          (λ n part. (base + part.0, slice_in _ _ _ _ _ part.1 i)) name h.name_slice;
+          if_mapped (λ n. (at : ℕ) × (o ≡ Some (inner + at)) × IsSlice n u at)
+          (λ n. (at : ℕ) × (o ≡ Some (start + at)) × IsSlice n s at)
+          (λ n part. (
+            base + part.0,
+            part.1 ∙ ap (λ n. Some n) (omega (arith, e)),
+            slice_in _ _ _ _ _ part.2 i,
+          )) name h.name_slice;
       info_slice =
           if_mapped (λ c. (at : ℕ) × (c.0 ≡ inner + at) × IsSlice c.1 u at)
           (λ c. (at : ℕ) × (c.0 ≡ start + at) × IsSlice c.1 s at)

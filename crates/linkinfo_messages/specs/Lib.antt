@@ -5,6 +5,7 @@ pub mod Links
 pub mod Slices
 pub mod Views
 pub mod Walks
+pub mod Resuming
 pub mod Captures
 pub mod Offsets
 pub mod ErrorTexts

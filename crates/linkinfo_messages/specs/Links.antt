@@ -60,6 +60,10 @@ last_of kind (x ∷ more) =
 abbrev pub name_in : List (ℕ × Attribute) → Option (List ℕ)
 name_in attributes = option_map (λ x. stripped x.1.value) (last_of 3 attributes)
 
+-- its offset
+abbrev pub name_place_in : List (ℕ × Attribute) → Option ℕ
+name_place_in attributes = option_map (λ x. x.0 + 4) (last_of 3 attributes)
+
 -- the contents of `IFLA_LINKINFO` (18), with their offset
 abbrev pub info_in : List (ℕ × Attribute) → Option (ℕ × List ℕ)
 info_in attributes = option_map (λ x. (x.0 + 4, x.1.value)) (last_of 18 attributes)
@@ -72,6 +76,7 @@ pub record Link : Type 0 where
   pub index : ℤ
   pub flags : ℕ
   pub name : Option (List ℕ)
+  pub name_place : Option ℕ
   pub info : Option (ℕ × List ℕ)
 
 -- the interface index and flags of `struct ifinfomsg` at the front of the payload, and the
@@ -83,6 +88,7 @@ link_with event m attributes = record {
   index = cast_signed w32 (le32 m.payload 4);
   flags = le32 m.payload 8;
   name = name_in attributes;
+  name_place = name_place_in attributes;
   info = info_in attributes;
 }
 

@@ -32,6 +32,9 @@ cause_moved by cause = cause
 abbrev pub error_moved : ℕ → MessageError → MessageError
 error_moved by e = record { place = by + e.place; cause = cause_moved by e.cause }
 
+abbrev pub name_place_moved : ℕ → Option ℕ → Option ℕ
+name_place_moved by place = option_map (λ at. by + at) place
+
 abbrev pub info_moved : ℕ → Option (ℕ × List ℕ) → Option (ℕ × List ℕ)
 info_moved by info = option_map (λ c. (by + c.0, c.1)) info
 
@@ -42,6 +45,7 @@ link_moved by l = record {
   index = l.index;
   flags = l.flags;
   name = l.name;
+  name_place = name_place_moved by l.name_place;
   info = info_moved by l.info;
 }
 

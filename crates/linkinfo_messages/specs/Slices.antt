@@ -8,6 +8,7 @@ use Rattle.std.specs.Prelude.{
   length,
   slice_range,
   Option,
+  Some,
   IfSome,
 }
 
@@ -16,9 +17,10 @@ pub record IsSlice (part s : List ℕ) (at : ℕ) : Type 0 where
   pub bytes : part ≡ slice_range s at (at + length part)
   pub within : at + length part ≤ length s
 
--- a name is a slice of the byte string, and so are contents, at their offset; the byte string
+-- a name is a slice of the byte string, and so are contents, each at its offset; the byte string
 -- begins at offset `start`
-pub record AreSlices (name : Option (List ℕ)) (info : Option (ℕ × List ℕ)) (s : List ℕ)
-    (start : ℕ) : Type 0 where
-  pub name_slice : IfSome name (λ n. (at : ℕ) × IsSlice n s at)
+pub record AreSlices (name : Option (List ℕ)) (name_place : Option ℕ)
+    (info : Option (ℕ × List ℕ)) (s : List ℕ) (start : ℕ) : Type 0 where
+  pub name_slice :
+      IfSome name (λ n. (at : ℕ) × (name_place ≡ Some (start + at)) × IsSlice n s at)
   pub info_slice : IfSome info (λ c. (at : ℕ) × (c.0 ≡ start + at) × IsSlice c.1 s at)

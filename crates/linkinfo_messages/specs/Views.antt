@@ -18,7 +18,14 @@ use Rattle.linkinfo_messages.specs.declared.attributes.LinkAttributes.{LinkAttri
 use Rattle.linkinfo_messages.specs.declared.link.LinkContents.{LinkContents}
 use Rattle.linkinfo_messages.specs.declared.link.LinkMessage.{LinkMessage}
 use Rattle.linkinfo_messages.specs.Slices.{AreSlices}
-use Rattle.linkinfo_messages.specs.Links.{Link, located, damaged_at, name_in, info_in}
+use Rattle.linkinfo_messages.specs.Links.{
+  Link,
+  located,
+  damaged_at,
+  name_in,
+  name_place_in,
+  info_in,
+}
 
 -- the offset of the contents, and the contents
 abbrev pub info_seen : Option LinkContents → Option (ℕ × List ℕ)
@@ -31,12 +38,13 @@ link_in m = record {
   index = m.index;
   flags = m.flags;
   name = option_copied m.name;
+  name_place = m.name_place;
   info = info_seen m.info;
 }
 
 -- its name and its contents are slices of a byte string that begins at this offset
 abbrev pub HasSlices : LinkMessage → List ℕ → ℕ → Type 0
-HasSlices m s start = AreSlices (option_copied m.name) (info_seen m.info) s start
+HasSlices m s start = AreSlices (option_copied m.name) m.name_place (info_seen m.info) s start
 
 abbrev pub link_seen : Result (Option LinkMessage) MessageError → Result (Option Link) MessageError
 link_seen (Ok link) = Ok (option_map link_in link)
@@ -52,6 +60,7 @@ pub record AttributesAre (attributes : LinkAttributes) (place : ℕ)
     (items : List (Result Attribute ℕ)) : Type 0 where
   pub undamaged : damaged_at place items ≡ None
   pub name : option_copied attributes.name ≡ name_in (located place items)
+  pub name_place : attributes.name_place ≡ name_place_in (located place items)
   pub info : info_seen attributes.info ≡ info_in (located place items)
 
 abbrev pub HasAttributes : Result LinkAttributes ℕ → ℕ → List (Result Attribute ℕ) → Type 0

@@ -34,6 +34,8 @@ const IFLA_LINKINFO: u16 = 18;
 pub(crate) struct LinkAttributes<'a> {
     /// The name without its closing NUL.
     pub(crate) name: Option<&'a [u8]>,
+    /// The offset of the name.
+    pub(crate) name_place: Option<usize>,
     /// The contents of the link info.
     pub(crate) info: Option<LinkContents<'a>>,
 }
@@ -45,16 +47,20 @@ impl<'a> LinkAttributes<'a> {
         requires { place + 4 < 2 ^ 64 }
         ensures name { option_copied result.name ≡ (if masked nla.now.kind == 3
             then Some (stripped nla.now.value) else option_copied self.entry.name) }
+        ensures name_place { result.name_place ≡ (if masked nla.now.kind == 3
+            then Some (place + 4) else self.entry.name_place) }
         ensures info { info_seen result.info ≡ (if masked nla.now.kind == 18
             then Some (place + 4, nla.now.value) else info_seen self.entry.info) }
     {
         match nla.kind() {
             IFLA_IFNAME => LinkAttributes {
                 name: Some(without_nul(nla.value())),
+                name_place: Some(place + 4),
                 info: self.info,
             },
             IFLA_LINKINFO => LinkAttributes {
                 name: self.name,
+                name_place: self.name_place,
                 info: Some(LinkContents {
                     place: place + 4,
                     bytes: nla.value(),
@@ -76,12 +82,13 @@ pub(crate) fn attributes_of<'a>(
     requires count { examined.old + length bytes.now < 2 ^ 64 }
     ensures attributes { HasAttributes result start (nla_items bytes.now) }
     ensures slices { IfOk result (λ attributes. AreSlices (option_copied attributes.name)
-        (info_seen attributes.info) bytes.now start) }
+        attributes.name_place (info_seen attributes.info) bytes.now start) }
     ensures counted { examined.new ≡ examined.old + headers_in (nla_items bytes.now) }
     ensures quarter { 4 * examined.new ≤ 4 * examined.old + length bytes.now }
 {
     let mut attributes = LinkAttributes {
         name: None,
+        name_place: None,
         info: None,
     };
     let mut nlas = NlasIterator::new(bytes);

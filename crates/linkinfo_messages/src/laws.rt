@@ -38,6 +38,8 @@ ghost use Rattle.linkinfo_messages.specs.Offsets.{
   record_moved,
 };
 ghost use Rattle.linkinfo_messages.specs.Reading.{joined};
+ghost use Rattle.linkinfo_messages.specs.Resuming.{Advances, Continues, each_in, steps_from};
+ghost use Rattle.linkinfo_messages.specs.Walks.{links_from};
 
 /// A message that is written as the kernel writes it is the first of the messages, whatever follows
 /// it, and the next one begins after its padding. Flags, sequence number and port, and the bytes of
@@ -90,6 +92,18 @@ pub fn message_offsets()
         ≡ map (moved (message_moved by) (error_moved by)) (messages place s) }
     ensures links_moved { (by place : ℕ) (s : List ℕ) → links_of (messages (by + place) s)
         ≡ map (moved (link_moved by) (error_moved by)) (links_of (messages place s)) }
+{}
+
+/// Iterating over link messages can be resumed at the offset where an item ends: after a link
+/// message, and at the end after an error. The items from there on are those after that item. So
+/// the first items of iterators, each of which starts where the item of the one before it ends, are
+/// the items of one iterator, in order, each once, and then none. The first item from an offset on
+/// is at that offset or after it, and a link message takes 16 bytes or more.
+pub fn resumed()
+    ensures continues { (s : List ℕ) (place : ℕ) → Continues s (links_from s place) }
+    ensures advances { (s : List ℕ) (place : ℕ) → Advances s place (links_from s place) }
+    ensures in_order { (n : ℕ) (s : List ℕ) (place : ℕ) →
+        steps_from n s place ≡ each_in n s (links_from s place) }
 {}
 
 /// Bytes have the same records wherever they begin, offsets aside.

@@ -52,6 +52,9 @@ pub struct LinkMessage<'a> {
     pub flags: u32,
     /// The name (`IFLA_IFNAME`) without its closing NUL, if it is there.
     pub name: Option<&'a [u8]>,
+    /// The offset of the name, in bytes from the beginning of the bytes iterated over, if it is
+    /// there.
+    pub name_place: Option<usize>,
     /// The contents of `IFLA_LINKINFO`, if it is there.
     pub info: Option<LinkContents<'a>>,
 }
@@ -106,6 +109,7 @@ fn link_as<'a>(
             index: le_u32(payload, 4).cast_signed(),
             flags: le_u32(payload, 8),
             name: attributes.name,
+            name_place: attributes.name_place,
             info: attributes.info,
         })),
         Err(at) => Err(MessageError {

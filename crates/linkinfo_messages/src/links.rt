@@ -1,8 +1,8 @@
 //! An iterator over the link messages of a byte string.
 
-ghost use Rattle.std.specs.Prelude.{◌≡◌, ◌≤◌, ◌*◌, ◌+◌, false, length};
+ghost use Rattle.std.specs.Prelude.{◌≡◌, ◌≤◌, ◌*◌, ◌+◌, false, length, min};
 ghost use Rattle.std.specs.Iterator.{item_count};
-ghost use Rattle.linkinfo_messages.specs.Walks.{Finds, Moves, links_left};
+ghost use Rattle.linkinfo_messages.specs.Walks.{Finds, Moves, links_from, links_left};
 
 use crate::error::MessageError;
 use crate::link::{LinkMessage, link_of};
@@ -57,6 +57,30 @@ impl<'a> LinkMessages<'a> {
         LinkMessages {
             bytes,
             place: 0,
+            examined: HeaderCount::new(),
+            failed: false,
+        }
+    }
+
+    /// An iterator that starts at this offset of the bytes, as `new` does at 0. It yields nothing
+    /// if the offset is the number of bytes or exceeds it. It yields at most one item per sixteen
+    /// bytes, and one more.
+    ///
+    /// A caller that keeps `place` of an iterator continues there later. If the offset is not that
+    /// of a message, the bytes there are read as one all the same.
+    pub fn starting_at(bytes: &'a [u8], place: usize) -> LinkMessages<'a>
+        ensures start { result ≡ record {
+          source = bytes.now;
+          place = min place (length bytes.now);
+          examined = 0;
+          failed = false;
+        } }
+        ensures links { links_left result ≡ links_from bytes.now place }
+        ensures item_bound { 16 * length (links_left result) ≤ length bytes.now + 15 }
+    {
+        LinkMessages {
+            bytes,
+            place: place.min(bytes.len()),
             examined: HeaderCount::new(),
             failed: false,
         }

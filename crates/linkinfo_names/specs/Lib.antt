@@ -1,4 +1,5 @@
 pub mod Explanation
 pub mod Laws
 pub mod Names
+pub mod Standing
 pub mod Uses

@@ -1088,6 +1088,23 @@ impl Flags for LacpState {
     }
 }
 
+/// Every number is a set.
+impl From<u8> for LacpState {
+    ghost from_gives = { λ bits set. set.0 ≡ bits };
+
+    fn from(bits: u8) -> LacpState {
+        LacpState(bits)
+    }
+}
+
+impl From<LacpState> for u8 {
+    ghost from_gives = { λ set bits. bits ≡ set.0 };
+
+    fn from(set: LacpState) -> u8 {
+        set.0
+    }
+}
+
 impl KeepsEveryBit for LacpState {
     ghost use Rattle.linkinfo_numbers.specs.Flags.{every_bit_8};
     ghost use Rattle.linkinfo_numbers.specs.Bond.{lacp_state_table, lacp_state_known};
@@ -1255,6 +1272,23 @@ impl Flags for LacpState16 {
 
     fn from_bits_retain(bits: u16) -> LacpState16 {
         LacpState16(bits)
+    }
+}
+
+/// Every number is a set.
+impl From<u16> for LacpState16 {
+    ghost from_gives = { λ bits set. set.0 ≡ bits };
+
+    fn from(bits: u16) -> LacpState16 {
+        LacpState16(bits)
+    }
+}
+
+impl From<LacpState16> for u16 {
+    ghost from_gives = { λ set bits. bits ≡ set.0 };
+
+    fn from(set: LacpState16) -> u16 {
+        set.0
     }
 }
 

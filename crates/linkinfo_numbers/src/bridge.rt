@@ -366,6 +366,23 @@ impl Flags for BridgeBooleanOptionFlags {
     }
 }
 
+/// Every number is a set.
+impl From<u32> for BridgeBooleanOptionFlags {
+    ghost from_gives = { λ bits set. set.0 ≡ bits };
+
+    fn from(bits: u32) -> BridgeBooleanOptionFlags {
+        BridgeBooleanOptionFlags(bits)
+    }
+}
+
+impl From<BridgeBooleanOptionFlags> for u32 {
+    ghost from_gives = { λ set bits. bits ≡ set.0 };
+
+    fn from(set: BridgeBooleanOptionFlags) -> u32 {
+        set.0
+    }
+}
+
 impl KeepsEveryBit for BridgeBooleanOptionFlags {
     ghost use Rattle.linkinfo_numbers.specs.Flags.{every_bit_32};
     ghost use Rattle.linkinfo_numbers.specs.Bridge.{
@@ -438,6 +455,30 @@ pub struct BridgeBooleanOptions {
     pub value: BridgeBooleanOptionFlags,
     /// The options to change, in a reply those that the kernel has (`optmask`).
     pub mask: BridgeBooleanOptionFlags,
+}
+
+/// Both sets of their numbers, in the order of the payload.
+impl From<(u32, u32)> for BridgeBooleanOptions {
+    ghost from_gives = { λ pair options.
+        (options.value.0 ≡ pair.0) × (options.mask.0 ≡ pair.1) };
+
+    fn from(pair: (u32, u32)) -> BridgeBooleanOptions {
+        let (value, mask) = pair;
+        BridgeBooleanOptions {
+            value: BridgeBooleanOptionFlags(value),
+            mask: BridgeBooleanOptionFlags(mask),
+        }
+    }
+}
+
+/// The numbers of both sets, in the order of the payload.
+impl From<BridgeBooleanOptions> for (u32, u32) {
+    ghost from_gives = { λ options pair.
+        (pair.0 ≡ options.value.0) × (pair.1 ≡ options.mask.0) };
+
+    fn from(options: BridgeBooleanOptions) -> (u32, u32) {
+        (options.value.0, options.mask.0)
+    }
 }
 
 impl ExactEq for BridgeBooleanOptions {

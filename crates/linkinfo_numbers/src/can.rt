@@ -266,6 +266,23 @@ impl Flags for CanCtrlModeFlags {
     }
 }
 
+/// Every number is a set.
+impl From<u32> for CanCtrlModeFlags {
+    ghost from_gives = { λ bits set. set.0 ≡ bits };
+
+    fn from(bits: u32) -> CanCtrlModeFlags {
+        CanCtrlModeFlags(bits)
+    }
+}
+
+impl From<CanCtrlModeFlags> for u32 {
+    ghost from_gives = { λ set bits. bits ≡ set.0 };
+
+    fn from(set: CanCtrlModeFlags) -> u32 {
+        set.0
+    }
+}
+
 impl KeepsEveryBit for CanCtrlModeFlags {
     ghost use Rattle.linkinfo_numbers.specs.Flags.{every_bit_32};
     ghost use Rattle.linkinfo_numbers.specs.Can.{
@@ -337,6 +354,30 @@ pub struct CanCtrlMode {
     pub mask: CanCtrlModeFlags,
     /// The modes that are on.
     pub flags: CanCtrlModeFlags,
+}
+
+/// Both sets of their numbers, in the order of the payload.
+impl From<(u32, u32)> for CanCtrlMode {
+    ghost from_gives = { λ pair mode.
+        (mode.mask.0 ≡ pair.0) × (mode.flags.0 ≡ pair.1) };
+
+    fn from(pair: (u32, u32)) -> CanCtrlMode {
+        let (mask, flags) = pair;
+        CanCtrlMode {
+            mask: CanCtrlModeFlags(mask),
+            flags: CanCtrlModeFlags(flags),
+        }
+    }
+}
+
+/// The numbers of both sets, in the order of the payload.
+impl From<CanCtrlMode> for (u32, u32) {
+    ghost from_gives = { λ mode pair.
+        (pair.0 ≡ mode.mask.0) × (pair.1 ≡ mode.flags.0) };
+
+    fn from(mode: CanCtrlMode) -> (u32, u32) {
+        (mode.mask.0, mode.flags.0)
+    }
 }
 
 impl ExactEq for CanCtrlMode {

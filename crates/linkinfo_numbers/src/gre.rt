@@ -252,6 +252,23 @@ impl Flags for GreIOFlags {
     }
 }
 
+/// Every number is a set.
+impl From<u16> for GreIOFlags {
+    ghost from_gives = { λ bits set. set.0 ≡ bits };
+
+    fn from(bits: u16) -> GreIOFlags {
+        GreIOFlags(bits)
+    }
+}
+
+impl From<GreIOFlags> for u16 {
+    ghost from_gives = { λ set bits. bits ≡ set.0 };
+
+    fn from(set: GreIOFlags) -> u16 {
+        set.0
+    }
+}
+
 impl KeepsEveryBit for GreIOFlags {
     ghost use Rattle.linkinfo_numbers.specs.Flags.{every_bit_16};
     ghost use Rattle.linkinfo_numbers.specs.Gre.{gre_io_flags_table, gre_io_flags_known};
@@ -334,6 +351,23 @@ impl Flags for GreEncapFlags {
 
     fn from_bits_retain(bits: u16) -> GreEncapFlags {
         GreEncapFlags(bits)
+    }
+}
+
+/// Every number is a set.
+impl From<u16> for GreEncapFlags {
+    ghost from_gives = { λ bits set. set.0 ≡ bits };
+
+    fn from(bits: u16) -> GreEncapFlags {
+        GreEncapFlags(bits)
+    }
+}
+
+impl From<GreEncapFlags> for u16 {
+    ghost from_gives = { λ set bits. bits ≡ set.0 };
+
+    fn from(set: GreEncapFlags) -> u16 {
+        set.0
     }
 }
 

@@ -139,6 +139,23 @@ impl Flags for IpVlanFlags {
     }
 }
 
+/// Every number is a set.
+impl From<u16> for IpVlanFlags {
+    ghost from_gives = { λ bits set. set.0 ≡ bits };
+
+    fn from(bits: u16) -> IpVlanFlags {
+        IpVlanFlags(bits)
+    }
+}
+
+impl From<IpVlanFlags> for u16 {
+    ghost from_gives = { λ set bits. bits ≡ set.0 };
+
+    fn from(set: IpVlanFlags) -> u16 {
+        set.0
+    }
+}
+
 impl KeepsEveryBit for IpVlanFlags {
     ghost use Rattle.linkinfo_numbers.specs.Flags.{every_bit_16};
     ghost use Rattle.linkinfo_numbers.specs.Ipvlan.{ip_vlan_flags_table, ip_vlan_flags_known};

@@ -198,6 +198,23 @@ impl Flags for MacVlanFlags {
     }
 }
 
+/// Every number is a set.
+impl From<u16> for MacVlanFlags {
+    ghost from_gives = { λ bits set. set.0 ≡ bits };
+
+    fn from(bits: u16) -> MacVlanFlags {
+        MacVlanFlags(bits)
+    }
+}
+
+impl From<MacVlanFlags> for u16 {
+    ghost from_gives = { λ set bits. bits ≡ set.0 };
+
+    fn from(set: MacVlanFlags) -> u16 {
+        set.0
+    }
+}
+
 impl KeepsEveryBit for MacVlanFlags {
     ghost use Rattle.linkinfo_numbers.specs.Flags.{every_bit_16};
     ghost use Rattle.linkinfo_numbers.specs.Macvlan.{mac_vlan_flags_table, mac_vlan_flags_known};

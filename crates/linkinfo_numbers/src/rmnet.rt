@@ -88,6 +88,23 @@ impl Flags for RmNetFlags {
     }
 }
 
+/// Every number is a set.
+impl From<u32> for RmNetFlags {
+    ghost from_gives = { λ bits set. set.0 ≡ bits };
+
+    fn from(bits: u32) -> RmNetFlags {
+        RmNetFlags(bits)
+    }
+}
+
+impl From<RmNetFlags> for u32 {
+    ghost from_gives = { λ set bits. bits ≡ set.0 };
+
+    fn from(set: RmNetFlags) -> u32 {
+        set.0
+    }
+}
+
 impl KeepsEveryBit for RmNetFlags {
     ghost use Rattle.linkinfo_numbers.specs.Flags.{every_bit_32};
     ghost use Rattle.linkinfo_numbers.specs.Rmnet.{rm_net_flags_table, rm_net_flags_known};

@@ -134,6 +134,23 @@ impl Flags for TunnelEncapFlags {
     }
 }
 
+/// Every number is a set.
+impl From<u16> for TunnelEncapFlags {
+    ghost from_gives = { λ bits set. set.0 ≡ bits };
+
+    fn from(bits: u16) -> TunnelEncapFlags {
+        TunnelEncapFlags(bits)
+    }
+}
+
+impl From<TunnelEncapFlags> for u16 {
+    ghost from_gives = { λ set bits. bits ≡ set.0 };
+
+    fn from(set: TunnelEncapFlags) -> u16 {
+        set.0
+    }
+}
+
 impl KeepsEveryBit for TunnelEncapFlags {
     ghost use Rattle.linkinfo_numbers.specs.Flags.{every_bit_16};
     ghost use Rattle.linkinfo_numbers.specs.Tunnel.{
@@ -259,6 +276,23 @@ impl Flags for Ip6TunnelFlags {
 
     fn from_bits_retain(bits: u32) -> Ip6TunnelFlags {
         Ip6TunnelFlags(bits)
+    }
+}
+
+/// Every number is a set.
+impl From<u32> for Ip6TunnelFlags {
+    ghost from_gives = { λ bits set. set.0 ≡ bits };
+
+    fn from(bits: u32) -> Ip6TunnelFlags {
+        Ip6TunnelFlags(bits)
+    }
+}
+
+impl From<Ip6TunnelFlags> for u32 {
+    ghost from_gives = { λ set bits. bits ≡ set.0 };
+
+    fn from(set: Ip6TunnelFlags) -> u32 {
+        set.0
     }
 }
 

@@ -177,6 +177,23 @@ impl Flags for VlanFlags {
     }
 }
 
+/// Every number is a set.
+impl From<u32> for VlanFlags {
+    ghost from_gives = { λ bits set. set.0 ≡ bits };
+
+    fn from(bits: u32) -> VlanFlags {
+        VlanFlags(bits)
+    }
+}
+
+impl From<VlanFlags> for u32 {
+    ghost from_gives = { λ set bits. bits ≡ set.0 };
+
+    fn from(set: VlanFlags) -> u32 {
+        set.0
+    }
+}
+
 impl KeepsEveryBit for VlanFlags {
     ghost use Rattle.linkinfo_numbers.specs.Flags.{every_bit_32};
     ghost use Rattle.linkinfo_numbers.specs.Vlan.{vlan_flags_table, vlan_flags_known};

@@ -9,6 +9,7 @@ use Rattle.std.specs.Prelude.{
   ◌%◌,
   ◌≤◌,
   ◌==◌,
+  ◌&&◌,
   Bool,
   true,
   false,
@@ -21,6 +22,7 @@ use Rattle.std.specs.Prelude.{
   Ok,
   Err,
   IsOk,
+  is_ok,
   refl,
 }
 use Rattle.std.specs.Str.{bytes_eq}
@@ -43,7 +45,7 @@ use Rattle.nla_frame.proofs.Stepping.{by_nla_items, nla_items-list_string, nla_i
 use Rattle.linkinfo_shapes.specs.declared.shape.Shape.{Shape}
 use Rattle.linkinfo_shapes.specs.declared.shape.Shape.TheVariants.{V4List, V6List}
 use Rattle.linkinfo_table.specs.Codecs.{Codec, Inside, IsCodec, Own, PayloadError}
-use Rattle.linkinfo_table.specs.Contents.{counted_in}
+use Rattle.linkinfo_table.specs.Contents.{counted_in, each_accepted}
 use Rattle.linkinfo_table.specs.ListLaws.{
   accepted,
   family_read_well,
@@ -57,6 +59,7 @@ use Rattle.linkinfo_table.specs.Payloads.{
   IsExact,
   IsPayload,
   IsPayloadShape,
+  address_width,
   codec_with,
 }
 use Rattle.linkinfo_payloads.specs.Fixed.{IsFixed}
@@ -361,14 +364,37 @@ module _ {X : Type 0} (width : ℕ) (of : List ℕ → X) (bytes : X → List �
         (sym (inner_is_header memory_error (errors (nla_items p) (Inside memory_error) e)));
   }
 
-  pub address_payload : (shape : Shape) → IsAddresses shape → IsPayload shape [] codec
-  address_payload shape i = record {
+  addresses_ok : (ps : List (Result Attribute ℕ)) →
+      is_ok (addresses width of ps) ≡ each_accepted (λ a. length a.value == width) ps
+  addresses_ok [] = refl
+  addresses_ok ((Err n) ∷ more) = refl
+  addresses_ok ((Ok a) ∷ more) =
+      go (length a.value == width) (addresses width of more) (addresses_ok more)
+    where
+      first_ok : (r : Result (List X) PayloadError) → is_ok (with_first (of a.value) r) ≡ is_ok r
+      first_ok (Ok xs) = refl
+      first_ok (Err e) = refl
+
+      go : (b : Bool) (r : Result (List X) PayloadError) →
+          is_ok r ≡ each_accepted (λ c. length c.value == width) more →
+          is_ok (if b then with_first (of a.value) r else bad (Own cause.Length))
+          ≡ (b && each_accepted (λ c. length c.value == width) more)
+      go true r e = first_ok r ∙ e
+      go false r e = refl
+
+  pub address_payload : (shape : Shape) → IsAddresses shape → address_width shape ≡ width →
+      IsPayload shape [] codec
+  address_payload shape i wide = record {
     shaped = addresses_payload_shape shape i;
     codec = address_is_codec;
     named = λ p e h. inl (inner_is_header e (errors (nla_items p) (Inside e) h));
     nest = λ inner e. absurd (subst IsAddresses e i);
     peer = λ e. absurd (subst IsAddresses e i);
     exact = λ j. absurd (not_exact shape i j);
+    exact_accepted = λ j. absurd (not_exact shape i j);
+    addresses_accepted = λ _ p.
+        addresses_ok (nla_items p)
+        ∙ ap (λ (n : ℕ). each_accepted (λ a. length a.value == n) (nla_items p)) (sym wide);
     addresses = λ _ p error h. errors (nla_items p) error h;
   }
 
@@ -444,6 +470,7 @@ v4_list_codec = address_codec v4
 pub v4_list_payload : IsPayload V4List [] v4_list_codec
 v4_list_payload =
     address_payload v4.width v4.of v4.bytes v4.Holds v4.fixed refl four_some four_short V4List tt
+    refl
 
 abbrev pub v6_list_codec : Codec
 v6_list_codec = address_codec v6
@@ -451,4 +478,4 @@ v6_list_codec = address_codec v6
 pub v6_list_payload : IsPayload V6List [] v6_list_codec
 v6_list_payload =
     address_payload v6.width v6.of v6.bytes v6.Holds v6.fixed refl sixteen_some sixteen_short V6List
-    tt
+    tt refl

@@ -42,7 +42,7 @@ use Rattle.nla_frame.proofs.ByteLists.{IsBytes-append, IsBytes-drop, IsBytes-nil
 use Rattle.linkinfo_shapes.specs.declared.shape.Shape.{Shape}
 use Rattle.linkinfo_shapes.specs.declared.shape.Shape.TheVariants.{Le16s, Le32s}
 use Rattle.linkinfo_table.specs.Codecs.{Codec}
-use Rattle.linkinfo_table.specs.Payloads.{IsExact, IsPayload, codec_with}
+use Rattle.linkinfo_table.specs.Payloads.{IsExact, IsPayload, codec_with, exact_length}
 use Rattle.linkinfo_payloads.specs.Exact.{IsExactly, exact_means, exact_payload}
 use Rattle.linkinfo_payloads.specs.Fixed.{IsFixed}
 use Rattle.linkinfo_payloads.specs.Layouts.{Layout, le16, le32}
@@ -160,25 +160,26 @@ array_codec layout =
     (array_memory layout.width)
 
 pub array_payload : {X : Type 0} (shape : Shape) → IsExact shape → (layout : Layout X) →
-    0 < layout.width → IsPayload shape [] (array_codec layout)
-array_payload shape exact layout positive =
+    0 < layout.width → ((len : ℕ) → is_multiple layout.width len ≡ exact_length shape len) →
+    IsPayload shape [] (array_codec layout)
+array_payload shape exact layout positive by_length =
     exact_payload (is_multiple layout.width) (array_of layout.width layout.of)
     (λ xs. flat_map layout.bytes xs) (λ xs. AllByRecursion layout.Holds xs)
     (array_memory layout.width)
     (array_exactly layout.width layout.of layout.bytes layout.Holds positive layout.fixed) shape
-    exact
+    exact by_length
 
 abbrev pub le16s_codec : Codec
 le16s_codec = array_codec le16
 
 pub le16s_payload : IsPayload Le16s [] le16s_codec
-le16s_payload = array_payload Le16s tt le16 two_positive
+le16s_payload = array_payload Le16s tt le16 two_positive (λ len. refl)
 
 abbrev pub le32s_codec : Codec
 le32s_codec = array_codec le32
 
 pub le32s_payload : IsPayload Le32s [] le32s_codec
-le32s_payload = array_payload Le32s tt le32 four_positive
+le32s_payload = array_payload Le32s tt le32 four_positive (λ len. refl)
 
 -- ---- one value after another
 

@@ -13,11 +13,12 @@ use Rattle.std.specs.Prelude.{
   Result,
   Ok,
   Err,
+  is_ok,
   refl,
 }
 use Rattle.std.specs.Str.{bytes_eq}
 use Rattle.std.proofs.Common.{arith, sym, ap, subst, ◌∙◌}
-use Rattle.std.proofs.lemmas.Bool.{cond-true}
+use Rattle.std.proofs.lemmas.Bool.{cond-true, cond-false}
 use Rattle.std.proofs.lemmas.Slice.Eq.{bytes_eq-Decides}
 use Rattle.nla_frame.specs.Attribute.{IsBytes}
 use Rattle.nla_frame.specs.Error.{memory_error}
@@ -44,6 +45,7 @@ use Rattle.linkinfo_table.specs.Payloads.{
   IsPayload,
   IsPayloadShape,
   codec_with,
+  exact_length,
 }
 
 -- what a payload means whose length is accepted or not
@@ -108,6 +110,15 @@ module _ {X : Type 0} (accepted : ℕ → Bool) (of : List ℕ → X) (bytes : X
       go true e h = (e, good_same (of p) x h)
       go false e h = absurd cc
 
+  exact_ok : (p : List ℕ) (b : Bool) → accepted (length p) ≡ b →
+      is_ok (exact_means accepted of p) ≡ accepted (length p)
+  exact_ok p b e = go b e ∙ sym e
+    where
+      go : (b : Bool) → accepted (length p) ≡ b →
+          is_ok (exact_means accepted of p) ≡ b
+      go true e = ap is_ok (cond-true (accepted (length p)) _ _ e)
+      go false e = ap is_ok (cond-false (accepted (length p)) _ _ e)
+
   exact_error : (p : List ℕ) (error : PayloadError) → exact_means accepted of p ≡ Err error →
       (error ≡ Own cause.Length) × (needs_memory p ≡ false)
   exact_error p error h = go (accepted (length p)) refl h
@@ -147,13 +158,16 @@ module _ {X : Type 0} (accepted : ℕ → Bool) (of : List ℕ → X) (bytes : X
         own_no_inside memory_error (sym (exact_error p (Inside memory_error) e).0);
   }
 
-  pub exact_payload : (shape : Shape) → IsExact shape → IsPayload shape [] codec
-  exact_payload shape i = record {
+  pub exact_payload : (shape : Shape) → IsExact shape →
+      ((len : ℕ) → accepted len ≡ exact_length shape len) → IsPayload shape [] codec
+  exact_payload shape i by_length = record {
     shaped = exact_payload_shape shape i;
     codec = exact_codec;
     named = λ p e h. absurd (own_no_inside e (sym (exact_error p (Inside e) h).0));
     nest = λ family e. absurd (exact_no_nest shape family i e);
     peer = λ e. absurd (exact_no_peer shape i e);
     exact = λ _ p error h. exact_error p error h;
+    exact_accepted = λ _ p. exact_ok p (accepted (length p)) refl ∙ by_length (length p);
+    addresses_accepted = λ j. absurd (exact_no_addresses shape i j);
     addresses = λ j. absurd (exact_no_addresses shape i j);
   }

@@ -5,7 +5,7 @@ use Rattle.std.proofs.Common.{sym, ap, subst, ◌∙◌}
 use Rattle.std.proofs.lemmas.Bool.{eq-eqb, eqb-true}
 use Rattle.linkinfo_shapes.specs.declared.shape.Shape.{Shape}
 use Rattle.linkinfo_table.specs.Codecs.{Codec}
-use Rattle.linkinfo_table.specs.Payloads.{IsExact, IsPayload, codec_with}
+use Rattle.linkinfo_table.specs.Payloads.{IsExact, IsPayload, codec_with, exact_length}
 use Rattle.linkinfo_payloads.specs.Exact.{IsExactly, exact_means, exact_payload}
 use Rattle.linkinfo_payloads.specs.Fixed.{IsFixed}
 use Rattle.linkinfo_payloads.specs.Layouts.{Layout}
@@ -37,9 +37,11 @@ record_codec layout make view =
 
 pub record_payload : {R F : Type 0} (shape : Shape) → IsExact shape → (layout : Layout F)
     (make : F → R) (view : R → F) → ((x : R) → make (view x) ≡ x) →
-    ((f : F) → view (make f) ≡ f) → IsPayload shape [] (record_codec layout make view)
-record_payload shape exact layout make view whole each =
+    ((f : F) → view (make f) ≡ f) →
+    ((len : ℕ) → (len == layout.width) ≡ exact_length shape len) →
+    IsPayload shape [] (record_codec layout make view)
+record_payload shape exact layout make view whole each by_length =
     exact_payload (λ n. n == layout.width) (λ p. make (layout.of p))
     (λ x. layout.bytes (view x)) (λ x. layout.Holds (view x)) (λ _. false)
     (record_exactly make view layout.width layout.width layout.of layout.bytes layout.Holds refl
-    whole each layout.fixed) shape exact
+    whole each layout.fixed) shape exact by_length

@@ -32,7 +32,7 @@ bridge_id_codec = record_codec bridge_id_layout bridge_id_of bridge_id_fields
 pub bridge_id_payload : IsPayload shape.BridgeId [] bridge_id_codec
 bridge_id_payload =
     record_payload shape.BridgeId tt bridge_id_layout bridge_id_of bridge_id_fields
-    (λ x. refl) (λ f. refl)
+    (λ x. refl) (λ f. refl) (λ len. refl)
 
 -- CanBerrCounter
 abbrev pub can_berr_counter_layout : Layout (ℕ × ℕ)
@@ -54,7 +54,7 @@ can_berr_counter_codec =
 pub can_berr_counter_payload : IsPayload shape.LePair16 [] can_berr_counter_codec
 can_berr_counter_payload =
     record_payload shape.LePair16 tt can_berr_counter_layout
-    can_berr_counter_of can_berr_counter_fields (λ x. refl) (λ f. refl)
+    can_berr_counter_of can_berr_counter_fields (λ x. refl) (λ f. refl) (λ len. refl)
 
 -- CanBitTiming
 abbrev pub can_bit_timing_layout : Layout (((ℕ × ℕ) × (ℕ × ℕ)) × ((ℕ × ℕ) × (ℕ × ℕ)))
@@ -84,7 +84,7 @@ can_bit_timing_codec = record_codec can_bit_timing_layout can_bit_timing_of can_
 pub can_bit_timing_payload : IsPayload shape.Le32x8 [] can_bit_timing_codec
 can_bit_timing_payload =
     record_payload shape.Le32x8 tt can_bit_timing_layout can_bit_timing_of can_bit_timing_fields
-    (λ x. refl) (λ f. refl)
+    (λ x. refl) (λ f. refl) (λ len. refl)
 
 -- CanBitTimingConst
 abbrev pub can_bit_timing_const_layout :
@@ -123,4 +123,4 @@ can_bit_timing_const_codec =
 pub can_bit_timing_const_payload : IsPayload shape.CanBitTimingConst [] can_bit_timing_const_codec
 can_bit_timing_const_payload =
     record_payload shape.CanBitTimingConst tt can_bit_timing_const_layout
-    can_bit_timing_const_of can_bit_timing_const_fields (λ x. refl) (λ f. refl)
+    can_bit_timing_const_of can_bit_timing_const_fields (λ x. refl) (λ f. refl) (λ len. refl)

@@ -31,7 +31,7 @@ ghost use Rattle.linkinfo_table.specs.Contents.{NoList};
 ghost use Rattle.linkinfo_table.specs.Described.{ShapeContains, address_count, address_place};
 ghost use Rattle.linkinfo_table.specs.Difference.{payload_error};
 ghost use Rattle.linkinfo_table.specs.Lists.{AllWell, alike_pairs};
-ghost use Rattle.linkinfo_table.specs.Payloads.{IsAddresses, placed};
+ghost use Rattle.linkinfo_table.specs.Payloads.{IsAddresses, address_width, placed};
 ghost use Rattle.linkinfo_payloads.specs.Addresses.{
   address_counts,
   address_headers,
@@ -62,6 +62,8 @@ pub trait Address: Fixed + Eq + ExactEq + Drop {
 
     ghost of_shape: { IsAddresses shape };
 
+    ghost wide: { address_width shape ≡ Self.WIDTH };
+
     ghost placed: { (family : Family) →
         ShapeContains family shape (NoList (address_place Self.WIDTH) (address_count Self.WIDTH)) };
 
@@ -79,6 +81,8 @@ impl Address for Ipv4Addr {
 
     ghost of_shape = { tt };
 
+    ghost wide = { refl };
+
     ghost placed = { λ _. refl };
 
     ghost aligned = { refl };
@@ -94,6 +98,8 @@ impl Address for Ipv6Addr {
     ghost shape = { shape.V6List };
 
     ghost of_shape = { tt };
+
+    ghost wide = { refl };
 
     ghost placed = { λ _. refl };
 
@@ -222,7 +228,7 @@ impl<A: Address> LinkPayload for Addresses<A> {
     ghost counted = { λ p. address_counts A.WIDTH (nla_items p) };
 
     ghost lawful = { address_payload A.WIDTH A.value_of A.bytes_of A.holds A.fixed A.aligned A.some
-        A.short A.Address.shape A.Address.of_shape };
+        A.short A.Address.shape A.Address.of_shape A.wide };
 
     fn read(
         alloc: Global,

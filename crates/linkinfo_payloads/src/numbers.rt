@@ -8,7 +8,7 @@ ghost use Rattle.linkinfo_shapes.specs.declared.shape.Shape.{Shape};
 ghost use Rattle.linkinfo_shapes.specs.declared.shape.Shape.TheVariants as shape;
 ghost use Rattle.linkinfo_table.specs.Contents.{single_value};
 ghost use Rattle.linkinfo_table.specs.Described.{exact_contains};
-ghost use Rattle.linkinfo_table.specs.Payloads.{IsExact};
+ghost use Rattle.linkinfo_table.specs.Payloads.{IsExact, exact_length};
 ghost use Rattle.std.specs.Str.{bytes_eq};
 ghost use Rattle.linkinfo_payloads.specs.Arrays.{
   array_exactly,
@@ -37,6 +37,8 @@ pub trait Number: Fixed + Eq + ExactEq + Drop {
 
     ghost of_shape: { IsExact shape };
 
+    ghost of_length: { (len : ℕ) → is_multiple Self.WIDTH len ≡ exact_length shape len };
+
     ghost positive: { 0 < Self.WIDTH };
 
     ghost long: { (x : Self) → length (Self.bytes_of x) ≡ Self.WIDTH };
@@ -47,6 +49,8 @@ impl Number for u16 {
 
     ghost of_shape = { tt };
 
+    ghost of_length = { λ _. refl };
+
     ghost positive = { two_positive };
 
     ghost long = { λ _. refl };
@@ -56,6 +60,8 @@ impl Number for u32 {
     ghost shape = { shape.Le32s };
 
     ghost of_shape = { tt };
+
+    ghost of_length = { λ _. refl };
 
     ghost positive = { four_positive };
 
@@ -244,7 +250,7 @@ impl<N: Number> LinkPayload for Numbers<N> {
     ghost lawful = { exact_payload (is_multiple N.WIDTH) (array_of N.WIDTH N.value_of)
         (λ xs. flat_map N.bytes_of xs) (λ xs. AllByRecursion N.holds xs) (array_memory N.WIDTH)
         (array_exactly N.WIDTH N.value_of N.bytes_of N.holds N.positive N.fixed) N.Number.shape
-        N.Number.of_shape };
+        N.Number.of_shape N.of_length };
 
     fn read(
         alloc: Global,

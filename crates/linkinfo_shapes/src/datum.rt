@@ -28,7 +28,7 @@ pub enum Datum<'a> {
     V6(Ipv6Addr),
     /// The hardware address of `Shape::Mac`.
     Mac([u8; 6]),
-    /// The two numbers of `Shape::BePair`, or flags and mask of `Shape::FlagPair`.
+    /// The two numbers of `Shape::BePair` and of `Shape::FlagPair`, in the order of the payload.
     Pair(u32, u32),
     /// The bytes of `Shape::Raw`.
     Bytes(&'a [u8]),

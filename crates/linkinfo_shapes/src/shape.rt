@@ -54,8 +54,10 @@ pub enum Shape {
     Mac,
     /// Two big-endian numbers of two bytes each (`struct ifla_vxlan_port_range`).
     BePair,
-    /// Two little-endian numbers of four bytes each: flags, then their mask (`struct
-    /// ifla_rmnet_flags`).
+    /// Two little-endian numbers of four bytes each: flags, then the mask of those to change
+    /// (`struct ifla_rmnet_flags`, `struct ifla_vlan_flags`, `struct br_boolopt_multi`), the mask,
+    /// then the flags (`struct can_ctrlmode`), or the two numbers of a mapping (`struct
+    /// ifla_vlan_qos_mapping`).
     FlagPair,
     /// No byte, or one (`IFLA_VXLAN_TTL_INHERIT`).
     EmptyOrByte,

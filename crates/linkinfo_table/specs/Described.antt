@@ -59,8 +59,14 @@ use Rattle.linkinfo_table.specs.FamilyRows.{
 }
 use Rattle.linkinfo_table.specs.Lists.{headers_of, if_read}
 use Rattle.linkinfo_table.specs.Lookups.{LookupSays, MeansDatum}
-use Rattle.linkinfo_table.specs.Payloads.{IsExact}
+use Rattle.linkinfo_table.specs.Payloads.{
+  IsAddresses,
+  IsExact,
+  all_addresses,
+  exact_length,
+}
 use Rattle.linkinfo_table.specs.Rows.{labelled, row_meaning}
+use Rattle.linkinfo_table.specs.TypedRows.{addresses_not_plain, exact_not_plain}
 use Rattle.linkinfo_table.specs.declared.lookup.Lookup.{Lookup}
 use Rattle.linkinfo_table.specs.declared.lookup.Lookup.TheVariants as lookup
 
@@ -110,10 +116,18 @@ SaysList family (lookup.Is SelfList) l = (l.family ≡ family) × (l.is_whole �
 SaysList family (lookup.Is (Nested inner)) l = (l.family ≡ inner) × (l.is_whole ≡ false)
 SaysList family _ l = ⊥
 
--- Whether an attribute is accepted, by the lookup of its type: by its shape, if that is one of the
--- table of shapes; never with a type that is rejected; always with an unknown one.
+-- Whether a payload of a shape is accepted: as the table of shapes reads it, a record or an array
+-- by its length, and a list of addresses if each attribute in it is an address. (A list of
+-- attributes of a family is accepted if each of them is: `IsContent`. Peers are their type's.)
+pub record ShapeAccepts (shape : Shape) (p : List ℕ) (accepted : Bool) : Type 0 where
+  pub plain : IsPlain shape → accepted ≡ is_ok (means shape p)
+  pub exact : IsExact shape → accepted ≡ exact_length shape (length p)
+  pub addresses : IsAddresses shape → accepted ≡ all_addresses shape p
+
+-- Whether an attribute is accepted, by the lookup of its type: by its shape; never with a type that
+-- is rejected; always with an unknown one.
 abbrev pub AcceptsBy : Attribute → Lookup → Bool → Type 0
-AcceptsBy a (lookup.Is shape) accepted = IsPlain shape → accepted ≡ is_ok (means shape a.value)
+AcceptsBy a (lookup.Is shape) accepted = ShapeAccepts shape a.value accepted
 AcceptsBy a (lookup.Refused cause) accepted = accepted ≡ false
 AcceptsBy a lookup.Unknown accepted = accepted ≡ true
 
@@ -192,7 +206,11 @@ both_contain family r false others first second here there flat = there flat
 pub flat_accepts : {X : Type 0} (f : Family) (other : DefaultNla → X) (r : FamilyRow X)
     (a : Attribute) → IsFlat r →
     AcceptsBy a (lookup_of r) (is_ok (row_meaning f other (row_of r) a))
-flat_accepts f other (Plain shape label) a h = λ _. go (means shape a.value)
+flat_accepts f other (Plain shape label) a h = record {
+  plain = λ _. go (means shape a.value);
+  exact = λ i. absurd (exact_not_plain shape i h);
+  addresses = λ i. absurd (addresses_not_plain shape i h);
+}
   where
     go : (m : Result (Carrier shape) Cause) →
         is_ok (labelled f (masked a.kind) label (own m)) ≡ is_ok m
@@ -209,8 +227,11 @@ pub says_accepts : {C X : Type 0} (f : Family) (among : List Family) (keeping : 
     (attribute : X → Attribute) (meaning : C → Attribute → Result X DecodeError) (a : Attribute)
     (says : Lookup) (m : Result X DecodeError) →
     LookupSays f among keeping attribute meaning a says m → AcceptsBy a says (is_ok m)
-says_accepts {X = X} f among keeping attribute meaning a (lookup.Is shape) m says =
-    λ plain. go (means shape a.value) (says.plain plain)
+says_accepts {X = X} f among keeping attribute meaning a (lookup.Is shape) m says = record {
+  plain = λ plain. go (means shape a.value) (says.plain plain);
+  exact = says.exact_accepted;
+  addresses = says.addresses_accepted;
+}
   where
     go : (r : Result (Carrier shape) Cause) → MeansDatum f attribute a shape r m →
         is_ok m ≡ is_ok r

@@ -104,6 +104,8 @@ module _ {C X : Type 0} (f : Family) (among : List Family) (keeping : DefaultNla
     nest = λ inner _ p own. not_own (values (meaning c) (nla_items p)) own;
     peer = λ e. absurd (no_peer f e);
     exact = λ i. absurd i;
+    exact_accepted = λ i. absurd i;
+    addresses_accepted = λ i. absurd i;
     addresses = λ i. absurd i;
   }
 

@@ -59,6 +59,7 @@ use Rattle.linkinfo_table.specs.TypedRows.{
   IsTyped,
   addresses_not_plain,
   exact_not_plain,
+  labelled_ok,
   payload_not_list,
   payload_not_plain,
 }
@@ -141,6 +142,8 @@ module _ {C F : Type 0} (f : Family) (inside : List Family) (other : DefaultNla 
     peer_typed = λ e. absurd (subst IsPlain e plain);
     nest = λ inner e. absurd (subst IsPlain e plain);
     exact = λ i. absurd (exact_not_plain shape i plain);
+    exact_accepted = λ i. absurd (exact_not_plain shape i plain);
+    addresses_accepted = λ i. absurd (addresses_not_plain shape i plain);
     addresses = λ i. absurd (addresses_not_plain shape i plain);
     payload_typed = λ i. absurd (payload_not_plain shape i plain);
   }
@@ -171,6 +174,12 @@ module _ {C F : Type 0} (f : Family) (inside : List Family) (other : DefaultNla 
             error.2
             ∙ ap (λ (z : PayloadError). error_at f (masked a.kind) z)
             (payload.exact i a.value error.0 error.1).0;
+        exact_accepted = λ i.
+            labelled_ok f (masked a.kind) label (codec.means a.value)
+            ∙ payload.exact_accepted i a.value;
+        addresses_accepted = λ i.
+            labelled_ok f (masked a.kind) label (codec.means a.value)
+            ∙ payload.addresses_accepted i a.value;
         addresses = λ i d h.
             let error = error_of a entry d h in
             address_error a error.0 d error.2 (payload.addresses i a.value error.0 error.1);

@@ -1,5 +1,5 @@
 -- What the lookup of a type says of the meaning of an attribute of that type.
-use Rattle.std.specs.Prelude.{◌≡◌, ◌⊎◌, ℕ, List, ◌∷◌, map, Result, Ok, Err}
+use Rattle.std.specs.Prelude.{◌≡◌, ◌⊎◌, ℕ, List, ◌∷◌, length, map, Result, Ok, Err, is_ok}
 use Rattle.nla_frame.specs.Error.{header_error}
 use Rattle.nla_frame.specs.Attribute.{Attribute, list_string, masked}
 use Rattle.nla_frame.specs.Kept.{kept}
@@ -15,7 +15,14 @@ use Rattle.linkinfo_shapes.specs.declared.shape.Shape.TheVariants.{Nested, Peer,
 use Rattle.linkinfo_table.specs.FamilyRows.{typed}
 use Rattle.linkinfo_table.specs.Lists.{values}
 use Rattle.linkinfo_table.specs.Named.{IsNamed}
-use Rattle.linkinfo_table.specs.Payloads.{IsAddresses, IsExact, IsPayloadShape, IsSingle}
+use Rattle.linkinfo_table.specs.Payloads.{
+  IsAddresses,
+  IsExact,
+  IsPayloadShape,
+  IsSingle,
+  all_addresses,
+  exact_length,
+}
 use Rattle.linkinfo_table.specs.declared.lookup.Lookup.{Lookup}
 use Rattle.linkinfo_table.specs.declared.lookup.Lookup.TheVariants as lookup
 
@@ -46,8 +53,9 @@ HoldsList attribute a (Err e) m = m ≡ Err e
 -- read. An address list is a list of the family's attributes, under some context. A peer is of the
 -- masked type, and its only error is the cause Peer. Every other payload that the family reads
 -- itself is of the masked type, but for flag bits. The errors of a list of another family are those
--- of the families inside. The only error of a record or an array of numbers is the cause Length,
--- and a list of addresses has that one, or the error of a header.
+-- of the families inside. A record or an array of numbers is accepted by its length, and its only
+-- error is the cause Length. A list of addresses is accepted if each attribute in it is an address;
+-- its error is the cause Length, or that of a header.
 pub record ShapeSays {C X : Type 0} (family : Family) (inside : List Family)
     (attribute : X → Attribute) (meaning : C → Attribute → Result X DecodeError) (a : Attribute)
     (shape : Shape) (m : Result X DecodeError) : Type 0 where
@@ -59,6 +67,8 @@ pub record ShapeSays {C X : Type 0} (family : Family) (inside : List Family)
   pub nest : (inner : Family) → shape ≡ Nested inner → (e : DecodeError) → m ≡ Err e →
       IsNamed inside e
   pub exact : IsExact shape → (e : DecodeError) → m ≡ Err e → e ≡ own_error family a cause.Length
+  pub exact_accepted : IsExact shape → is_ok m ≡ exact_length shape (length a.value)
+  pub addresses_accepted : IsAddresses shape → is_ok m ≡ all_addresses shape a.value
   pub addresses : IsAddresses shape → (e : DecodeError) → m ≡ Err e →
       (e ≡ own_error family a cause.Length) ⊎ (e ≡ header_error)
   pub payload_typed : IsPayloadShape shape → (x : X) → m ≡ Ok x →

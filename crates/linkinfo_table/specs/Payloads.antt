@@ -4,17 +4,22 @@ use Rattle.std.specs.Prelude.{
   ◌≡◌,
   ◌≢◌,
   ◌⊎◌,
+  ◌==◌,
+  ◌%◌,
   ℕ,
   ltb,
   Bool,
   true,
   false,
   List,
+  length,
   Result,
   Ok,
   Err,
+  is_ok,
 }
 use Rattle.nla_frame.specs.Error.{header_error}
+use Rattle.nla_frame.specs.NlaItems.{nla_items}
 use Rattle.nla_frame.specs.declared.error.Cause.{Cause}
 use Rattle.nla_frame.specs.declared.error.Cause.TheVariants as cause
 use Rattle.nla_frame.specs.declared.error.DecodeError.{DecodeError}
@@ -34,6 +39,7 @@ use Rattle.linkinfo_shapes.specs.declared.shape.Shape.TheVariants.{
   V6List,
 }
 use Rattle.linkinfo_table.specs.Codecs.{Codec, IsCodec, PayloadError, Inside, Own}
+use Rattle.linkinfo_table.specs.Contents.{each_accepted}
 use Rattle.linkinfo_table.specs.Named.{IsNamed}
 use Rattle.linkinfo_table.specs.Rows.{labelled}
 
@@ -47,11 +53,33 @@ IsExact Le16s = Unit {0}
 IsExact Le32s = Unit {0}
 IsExact _ = ⊥
 
+-- the lengths of records, and of arrays of such numbers
+abbrev pub exact_length : Shape → ℕ → Bool
+exact_length BridgeId len = len == 8
+exact_length LePair16 len = len == 4
+exact_length Le32x8 len = len == 32
+exact_length CanBitTimingConst len = len == 48
+exact_length Le16s len = (len % 2) == 0
+exact_length Le32s len = (len % 4) == 0
+exact_length _ len = false
+
 -- the shapes of lists of addresses
 abbrev pub IsAddresses : Shape → Type 0
 IsAddresses V4List = Unit {0}
 IsAddresses V6List = Unit {0}
 IsAddresses _ = ⊥
+
+-- the number of bytes of an address in such a list
+abbrev pub address_width : Shape → ℕ
+address_width V4List = 4
+address_width V6List = 16
+address_width _ = 0
+
+-- Whether a list of addresses is accepted: each of its attributes is an address, and nothing is
+-- left over.
+abbrev pub all_addresses : Shape → List ℕ → Bool
+all_addresses shape p =
+    each_accepted (λ a. length a.value == address_width shape) (nla_items p)
 
 -- the shapes of such payloads: a list of attributes of another family, a peer, a record, an array
 -- of numbers, or a list of addresses
@@ -92,8 +120,9 @@ codec_with {X = X} means canon holds alike headers needs_memory = record {
 
 -- What such a payload owes: the laws of a codec, and which errors it has. Errors inside a list are
 -- those of the families inside, and a list has no others. The only error of a peer is the cause
--- Peer, and that of a record or an array the cause Length, for which no memory is needed. A list of
--- addresses has the cause Length, or the error of a header.
+-- Peer. Records and arrays are accepted by their length; their only error is the cause Length, for
+-- which no memory is needed. A list of addresses is accepted if each attribute in it is an address;
+-- it has the cause Length, or the error of a header.
 pub record IsPayload (shape : Shape) (inside : List Family) (c : Codec) : Type 0 where
   pub shaped : IsPayloadShape shape
   pub codec : IsCodec c
@@ -104,6 +133,10 @@ pub record IsPayload (shape : Shape) (inside : List Family) (c : Codec) : Type 0
       error ≡ Own cause.Peer
   pub exact : IsExact shape → (p : List ℕ) (error : PayloadError) → c.means p ≡ Err error →
       (error ≡ Own cause.Length) × (c.needs_memory p ≡ false)
+  pub exact_accepted : IsExact shape → (p : List ℕ) →
+      is_ok (c.means p) ≡ exact_length shape (length p)
+  pub addresses_accepted : IsAddresses shape → (p : List ℕ) →
+      is_ok (c.means p) ≡ all_addresses shape p
   pub addresses : IsAddresses shape → (p : List ℕ) (error : PayloadError) →
       c.means p ≡ Err error → (error ≡ Own cause.Length) ⊎ (error ≡ Inside header_error)
 

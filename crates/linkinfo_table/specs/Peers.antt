@@ -114,5 +114,7 @@ peer_is_payload meaning alike payload well lawful = record {
   nest = λ family e. absurd (peer_no_nest family e);
   peer = λ _ p error h. only_peer (meaning p) error h;
   exact = λ i. absurd i;
+  exact_accepted = λ i. absurd i;
+  addresses_accepted = λ i. absurd i;
   addresses = λ i. absurd i;
 }

@@ -145,6 +145,8 @@ payload_among shape inside more codec wider payload = record {
   nest = payload.nest;
   peer = payload.peer;
   exact = payload.exact;
+  exact_accepted = payload.exact_accepted;
+  addresses_accepted = payload.addresses_accepted;
   addresses = payload.addresses;
 }
 
@@ -205,7 +207,7 @@ has_payload {shape = shape} {nested = nested} = record {
 -- ---- at a row with such a payload
 
 -- a label does not change whether a payload is accepted
-labelled_ok : {X F : Type 0} (f : Family) (number : ℕ) (label : X → F)
+pub labelled_ok : {X F : Type 0} (f : Family) (number : ℕ) (label : X → F)
     (r : Result X PayloadError) → is_ok (labelled f number label r) ≡ is_ok r
 labelled_ok f number label (Ok x) = refl
 labelled_ok f number label (Err e) = refl

@@ -1,4 +1,4 @@
--- Shapes and names of all rows, by computing.
+-- Layouts and names of all rows, by computing.
 use Rattle.std.proofs.Common.{
   ◌≡◌,
   ℕ,
@@ -22,93 +22,99 @@ use Rattle.std.proofs.Common.{
 use Rattle.std.proofs.lemmas.Bool.{eqb-true}
 use Rattle.nla_frame.specs.declared.error.Family.{Family}
 use Rattle.nla_frame.specs.declared.error.Family.TheVariants as family
-use Rattle.linkinfo_shapes.specs.Table.{found, rows_of as layer_rows}
+use Rattle.linkinfo_shapes.specs.Table.{found}
+use Rattle.linkinfo_shapes.specs.Typed.{typed_rows_of}
 use Rattle.linkinfo_shapes.specs.declared.shape.Shape.{Shape}
-use Rattle.linkinfo_view.specs.Laws.{Agrees, are_distinct, member_names, shown_shape}
+use Rattle.linkinfo_view.specs.Laws.{
+  Agrees,
+  are_distinct,
+  member_names,
+  shown_format,
+  shown_shape,
+  view_format,
+  view_shape,
+}
+use Rattle.linkinfo_view.specs.declared.format.Format.{Format}
 use Rattle.linkinfo_view.specs.declared.format.Table.{Table}
 use Rattle.linkinfo_view.specs.declared.format.Table.TheVariants as table
 
--- a row as its type has it in a table, and as it is
-abbrev shown_at : Table → ℕ × Shape → Option Shape
-shown_at t row = shown_shape t row.0
-
-abbrev given : ℕ × Shape → Option Shape
-given row = Some row.1
-
-abbrev HasAll : Table → List (ℕ × Shape) → Type 0
-HasAll t rows = map (shown_at t) rows ≡ map given rows
-
-head_or : Option Shape → List (Option Shape) → Option Shape
+-- what is equal at each of some rows is equal at the one that is found among them
+head_or : {A : Type 0} → A → List A → A
 head_or d [] = d
 head_or d (x ∷ xs) = x
 
-tail_of : List (Option Shape) → List (Option Shape)
+tail_of : {A : Type 0} → List A → List A
 tail_of [] = []
 tail_of (x ∷ xs) = xs
 
-first_has : (t : Table) (row : ℕ × Shape) (rows : List (ℕ × Shape)) → HasAll t (row ∷ rows) →
-    shown_shape t row.0 ≡ Some row.1
+abbrev at_row : {A : Type 0} → (ℕ → Shape → A) → ℕ × Shape → A
+at_row p row = p row.0 row.1
+
+abbrev AreEqual : {A : Type 0} → (ℕ → Shape → A) → (ℕ → Shape → A) → List (ℕ × Shape) → Type 0
+AreEqual p q rows = map (at_row p) rows ≡ map (at_row q) rows
+
+first_equal : {A : Type 0} → (p q : ℕ → Shape → A) (row : ℕ × Shape) (rows : List (ℕ × Shape)) →
+    AreEqual p q (row ∷ rows) → p row.0 row.1 ≡ q row.0 row.1
 unfolding head_or
-first_has t row rows h = ap (head_or None) h
+first_equal p q row rows h = ap (head_or (at_row p row)) h
 
-others_have : (t : Table) (row : ℕ × Shape) (rows : List (ℕ × Shape)) → HasAll t (row ∷ rows) →
-    HasAll t rows
+others_equal : {A : Type 0} → (p q : ℕ → Shape → A) (row : ℕ × Shape) (rows : List (ℕ × Shape)) →
+    AreEqual p q (row ∷ rows) → AreEqual p q rows
 unfolding tail_of
-others_have t row rows h = ap tail_of h
+others_equal p q row rows h = ap tail_of h
 
--- what is found in such rows is what the table shows
-at_row : (t : Table) (row : ℕ × Shape) (number : ℕ) (sh : Shape) (b : Bool) (rest : Option Shape) →
-    eqb number row.0 ≡ b → shown_shape t row.0 ≡ Some row.1 →
-    (rest ≡ Some sh → shown_shape t number ≡ Some sh) → cond b (Some row.1) rest ≡ Some sh →
-    shown_shape t number ≡ Some sh
-at_row t row number sh true rest e here later h =
-    ap (λ (n : ℕ). shown_shape t n) (eqb-true number row.0 e) ∙ here ∙ h
-at_row t row number sh false rest e here later h = later h
+at_first : {A : Type 0} → (p q : ℕ → Shape → A) (row : ℕ × Shape) (number : ℕ) (sh : Shape) →
+    number ≡ row.0 → row.1 ≡ sh → p row.0 row.1 ≡ q row.0 row.1 → p number sh ≡ q number sh
+at_first p q row number sh n s h = cc
 
-agrees : (t : Table) (rows : List (ℕ × Shape)) (number : ℕ) (sh : Shape) → HasAll t rows →
-    found rows number ≡ Some sh → shown_shape t number ≡ Some sh
-agrees t [] number sh all h = absurd (cc)
-agrees t (row ∷ rows) number sh all h =
-    at_row t row number sh (eqb number row.0) (found rows number) refl (first_has t row rows all)
-    (λ (g : found rows number ≡ Some sh). agrees t rows number sh (others_have t row rows all) g) h
+found_in : {A : Type 0} → (p q : ℕ → Shape → A) (row : ℕ × Shape) (number : ℕ) (sh : Shape)
+    (b : Bool) (rest : Option Shape) → eqb number row.0 ≡ b → p row.0 row.1 ≡ q row.0 row.1 →
+    (rest ≡ Some sh → p number sh ≡ q number sh) → cond b (Some row.1) rest ≡ Some sh →
+    p number sh ≡ q number sh
+found_in p q row number sh true rest e here later h =
+    at_first p q row number sh (eqb-true number row.0 e) (cc) here
+found_in p q row number sh false rest e here later h = later h
 
-all_agree : (t : Table) (f : Family) → HasAll t (layer_rows f) → Agrees t f
-all_agree t f all number sh h = agrees t (layer_rows f) number sh all h
+equal_at : {A : Type 0} → (p q : ℕ → Shape → A) (rows : List (ℕ × Shape)) (number : ℕ)
+    (sh : Shape) → AreEqual p q rows → found rows number ≡ Some sh → p number sh ≡ q number sh
+equal_at p q [] number sh all h = absurd (cc)
+equal_at p q (row ∷ rows) number sh all h =
+    found_in p q row number sh (eqb number row.0) (found rows number) refl
+    (first_equal p q row rows all)
+    (λ (g : found rows number ≡ Some sh).
+    equal_at p q rows number sh (others_equal p q row rows all) g)
+    h
 
--- the rows of a family have the shapes of the library
-pub same_shapes : (f : Family) → Agrees (table.Family f) f
--- Begin: written by tables/generate from tables/families.
-same_shapes family.Amt = all_agree (table.Family family.Amt) family.Amt refl
-same_shapes family.BareUdp = all_agree (table.Family family.BareUdp) family.BareUdp refl
-same_shapes family.BatAdv = all_agree (table.Family family.BatAdv) family.BatAdv refl
-same_shapes family.Geneve = all_agree (table.Family family.Geneve) family.Geneve refl
-same_shapes family.Gre = all_agree (table.Family family.Gre) family.Gre refl
-same_shapes family.Gre6 = all_agree (table.Family family.Gre6) family.Gre6 refl
-same_shapes family.Gtp = all_agree (table.Family family.Gtp) family.Gtp refl
-same_shapes family.Ipoib = all_agree (table.Family family.Ipoib) family.Ipoib refl
-same_shapes family.IpTunnel = all_agree (table.Family family.IpTunnel) family.IpTunnel refl
-same_shapes family.IpVlan = all_agree (table.Family family.IpVlan) family.IpVlan refl
-same_shapes family.IpVtap = all_agree (table.Family family.IpVtap) family.IpVtap refl
-same_shapes family.MacVlan = all_agree (table.Family family.MacVlan) family.MacVlan refl
-same_shapes family.MacVtap = all_agree (table.Family family.MacVtap) family.MacVtap refl
-same_shapes family.MacSec = all_agree (table.Family family.MacSec) family.MacSec refl
-same_shapes family.Netkit = all_agree (table.Family family.Netkit) family.Netkit refl
-same_shapes family.RmNet = all_agree (table.Family family.RmNet) family.RmNet refl
-same_shapes family.Veth = all_agree (table.Family family.Veth) family.Veth refl
-same_shapes family.Vxcan = all_agree (table.Family family.Vxcan) family.Vxcan refl
-same_shapes family.Vrf = all_agree (table.Family family.Vrf) family.Vrf refl
-same_shapes family.Wwan = all_agree (table.Family family.Wwan) family.Wwan refl
-same_shapes family.Xfrm = all_agree (table.Family family.Xfrm) family.Xfrm refl
-same_shapes family.Vti = all_agree (table.Family family.Vti) family.Vti refl
-same_shapes family.Vxlan = all_agree (table.Family family.Vxlan) family.Vxlan refl
--- End: written by tables/generate.
-same_shapes _ = λ n sh h. absurd (cc)
+-- the shape of a type in a table, and that which the family's row wants
+abbrev shape_in : Table → ℕ → Shape → Option Shape
+shape_in t number sh = shown_shape t number
 
-pub sit_shapes : Agrees table.Sit family.IpTunnel
-sit_shapes = all_agree table.Sit family.IpTunnel refl
+abbrev wanted_shape : Family → ℕ → Shape → Option Shape
+wanted_shape f number sh = Some (view_shape f number sh)
 
-pub ip6_tunnel_shapes : Agrees table.Ip6Tunnel family.IpTunnel
-ip6_tunnel_shapes = all_agree table.Ip6Tunnel family.IpTunnel refl
+-- the same of the format, if the shape wants one
+abbrev only_if : Option Format → Option Format → Option Format
+only_if None form = None
+only_if (Some wanted) form = form
+
+abbrev format_in : Table → Family → ℕ → Shape → Option Format
+format_in t f number sh = only_if (view_format f number sh) (shown_format t number)
+
+is_wanted : (wanted : Option Format) (given : Option Format) (form : Format) →
+    only_if wanted given ≡ wanted → wanted ≡ Some form → given ≡ Some form
+is_wanted None given form h e = absurd (cc)
+is_wanted (Some wanted) given form h e = h ∙ e
+
+-- a table agrees with a family if shapes and formats are equal
+pub all_agree : (t : Table) (f : Family) →
+    AreEqual (shape_in t) (wanted_shape f) (typed_rows_of f) →
+    AreEqual (format_in t f) (view_format f) (typed_rows_of f) → Agrees t f
+all_agree t f shapes formats = record {
+  shapes = λ number sh h.
+      equal_at (shape_in t) (wanted_shape f) (typed_rows_of f) number sh shapes h;
+  formats = λ number sh form h e. is_wanted (view_format f number sh) (shown_format t number) form
+      (equal_at (format_in t f) (view_format f) (typed_rows_of f) number sh formats h) e;
+}
 
 -- the names of the members of an object are distinct
 family_distinct : (f : Family) → IsTrue (are_distinct (member_names (table.Family f)))

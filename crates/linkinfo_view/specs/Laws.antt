@@ -1,10 +1,14 @@
--- What holds of the rows: shapes are those of the library, and names are distinct.
+-- What holds of the rows: they have the layouts of the library, and names are distinct.
 use Rattle.std.specs.Prelude.{
   ◌≡◌,
   ℕ,
+  ◌==◌,
   ◌&&◌,
+  ◌||◌,
   Bool,
   true,
+  false,
+  if◌then◌else◌,
   not,
   List,
   [],
@@ -21,8 +25,10 @@ use Rattle.std.specs.List.{AllByRecursion, flat_map, list_any}
 use Rattle.std.specs.Str.{bytes_eq}
 use Rattle.nla_frame.specs.Attribute.{Attribute, masked}
 use Rattle.nla_frame.specs.declared.error.Family.{Family}
-use Rattle.linkinfo_shapes.specs.Table.{shape_of}
+use Rattle.nla_frame.specs.declared.error.Family.TheVariants as family
+use Rattle.linkinfo_shapes.specs.Typed.{typed_rows_of, typed_shape_of}
 use Rattle.linkinfo_shapes.specs.declared.shape.Shape.{Shape}
+use Rattle.linkinfo_shapes.specs.declared.shape.Shape.TheVariants as shape
 use Rattle.serde_json.specs.Data.{Data, array}
 use Rattle.serde_json.specs.Find.{get}
 use Rattle.serde_json.specs.View.{items_of}
@@ -33,6 +39,8 @@ use Rattle.linkinfo_view.specs.Text.{hex_data}
 use Rattle.linkinfo_view.specs.Values.{Named}
 use Rattle.linkinfo_view.specs.View.{
   attributes_data,
+  element_shape,
+  element_type,
   label_of,
   members_of,
   nested_data,
@@ -41,19 +49,80 @@ use Rattle.linkinfo_view.specs.View.{
   row_before,
 }
 use Rattle.linkinfo_view.specs.Words.{FlagRow, flag_of}
+use Rattle.linkinfo_view.specs.declared.format.Elements.{Elements}
+use Rattle.linkinfo_view.specs.declared.format.Elements.TheVariants as elements
 use Rattle.linkinfo_view.specs.declared.format.Flags.{Flags}
 use Rattle.linkinfo_view.specs.declared.format.Format.{Format}
 use Rattle.linkinfo_view.specs.declared.format.Format.TheVariants as format
 use Rattle.linkinfo_view.specs.declared.format.Table.{Table}
 
--- the shape of a type by the rows of a table
+-- the shape and the format of a type by the rows of a table
 abbrev pub shown_shape : Table → ℕ → Option Shape
 shown_shape t number = option_map (λ (row : Line). row.shape) (row_of t number)
 
--- the table has each row of the family that the library has, with the library's shape
-abbrev pub Agrees : Table → Family → Type 0
-Agrees t f =
-    (number : ℕ) (sh : Shape) → shape_of f number ≡ Some sh → shown_shape t number ≡ Some sh
+abbrev pub shown_format : Table → ℕ → Option Format
+shown_format t number = option_map (λ (row : Line). row.format) (row_of t number)
+
+-- The booleans whose byte is shown as a number, by type: those of bridges, and of their ports
+-- `IFLA_BRPORT_TOPOLOGY_CHANGE_ACK` and `IFLA_BRPORT_CONFIG_PENDING`.
+abbrev pub is_shown_as_number : Family → ℕ → Bool
+is_shown_as_number family.Bridge number = true
+is_shown_as_number family.BridgePort number = number == 19 || number == 20
+is_shown_as_number _ number = false
+
+-- The shape of a row of the view, by that of the library's row: the same, but `U8` for such a
+-- boolean, and `Raw` for a record, an array or a list, whose bytes the format reads.
+abbrev pub view_shape : Family → ℕ → Shape → Shape
+view_shape f number shape.Truth =
+    if is_shown_as_number f number then shape.U8 else shape.Truth
+view_shape f number (shape.Nested inner) = shape.Raw
+view_shape f number shape.BridgeId = shape.Raw
+view_shape f number shape.LePair16 = shape.Raw
+view_shape f number shape.Le32x8 = shape.Raw
+view_shape f number shape.CanBitTimingConst = shape.Raw
+view_shape f number shape.Le16s = shape.Raw
+view_shape f number shape.Le32s = shape.Raw
+view_shape f number shape.V4List = shape.Raw
+view_shape f number shape.V6List = shape.Raw
+view_shape f number sh = sh
+
+-- The format of a row of the view, where the library's shape is such a boolean, a record, an array
+-- or a list. A list of another family is shown by the table of that family, but for maps of
+-- priorities.
+abbrev pub view_format : Family → ℕ → Shape → Option Format
+view_format f number shape.Truth =
+    if is_shown_as_number f number then Some format.Plain else None
+view_format f number (shape.Nested family.VlanQosMapping) =
+    Some (format.List elements.PriorityPairs)
+view_format f number (shape.Nested inner) = Some (format.Nested inner)
+view_format f number shape.BridgeId = Some format.BridgeId
+view_format f number shape.LePair16 = Some format.ErrorCounters
+view_format f number shape.Le32x8 = Some format.BitTiming
+view_format f number shape.CanBitTimingConst = Some format.BitTimingConst
+view_format f number shape.Le16s = Some format.Le16s
+view_format f number shape.Le32s = Some format.Le32s
+view_format f number shape.V4List = Some (format.List elements.Addresses)
+view_format f number shape.V6List = Some (format.List elements.Addresses)
+view_format f number shape.SelfList = Some (format.List elements.HardwareAddresses)
+view_format f number sh = None
+
+-- Each row of the family in the typed layer has a row in the table: with its shape as the view has
+-- it, and with the format that the view has for it, if it has one.
+pub record Agrees (t : Table) (f : Family) : Type 0 where
+  pub shapes : (number : ℕ) (sh : Shape) → typed_shape_of f number ≡ Some sh →
+      shown_shape t number ≡ Some (view_shape f number sh)
+  pub formats : (number : ℕ) (sh : Shape) (form : Format) → typed_shape_of f number ≡ Some sh →
+      view_format f number sh ≡ Some form → shown_format t number ≡ Some form
+
+-- The one row of the family has the type and the shape of the elements of a list.
+abbrev pub IsRowOfElements : Family → Elements → Type 0
+IsRowOfElements f el =
+    (place : ℕ) → typed_rows_of f ≡ (element_type el place, element_shape el) ∷ []
+
+-- A row of the family has the type and the shape of the elements of a list.
+abbrev pub HasRowOfElements : Family → Elements → Type 0
+HasRowOfElements f el =
+    (place : ℕ) → typed_shape_of f (element_type el place) ≡ Some (element_shape el)
 
 -- the names of flags
 abbrev pub flag_names : Flags → List (List ℕ)

@@ -23,6 +23,7 @@ use Rattle.nla_frame.specs.Attribute.{Attribute, masked}
 use Rattle.nla_frame.specs.declared.error.Cause.{Cause}
 use Rattle.linkinfo_shapes.specs.Data as value
 use Rattle.linkinfo_shapes.specs.Data.{Value}
+use Rattle.linkinfo_shapes.specs.declared.shape.Shape.{Shape}
 use Rattle.linkinfo_shapes.specs.declared.shape.Shape.TheVariants as shape
 use Rattle.serde_json.specs.Data as json
 use Rattle.serde_json.specs.Data.{Data, Members, put}
@@ -79,17 +80,23 @@ element_type elements.HardwareAddresses place = 4
 element_type elements.Addresses place = place
 element_type elements.PriorityPairs place = 1
 
+-- the shape of its payload
+abbrev pub element_shape : Elements → Shape
+element_shape elements.HardwareAddresses = shape.Mac
+element_shape elements.Addresses = shape.Ip
+element_shape elements.PriorityPairs = shape.FlagPair
+
 -- two numbers, of which the first is mapped to the second
 abbrev pub mapping : Result Value Cause → List ℕ → Data
 mapping (Ok (value.pair a b)) payload =
     two (codes "from") (number_data a) (codes "to") (number_data b)
 mapping _ payload = hex_data payload
 
--- the payload of an element
+-- the payload of an element, by its shape
 abbrev pub element_payload : Elements → List ℕ → Data
-element_payload elements.HardwareAddresses payload = plain_as shape.Mac payload
-element_payload elements.Addresses payload = plain_as shape.Ip payload
-element_payload elements.PriorityPairs payload = mapping (meant shape.FlagPair payload) payload
+element_payload elements.PriorityPairs payload =
+    mapping (meant (element_shape elements.PriorityPairs) payload) payload
+element_payload el payload = plain_as (element_shape el) payload
 
 -- an element at a place; one of another type is shown as such
 abbrev pub element_data : Elements → ℕ → Attribute → Data

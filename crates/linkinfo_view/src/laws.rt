@@ -1,12 +1,14 @@
 //! Laws of the rows. They have no code: their contracts are what they are there for.
 
-ghost use Rattle.std.specs.Prelude.{IsTrue, List, ℕ};
+ghost use Rattle.std.specs.Prelude.{◌≢◌, IsTrue, List, ℕ};
 ghost use Rattle.std.specs.List.{AllPass};
 ghost use Rattle.nla_frame.specs.Attribute.{IsBytes};
 ghost use Rattle.nla_frame.specs.declared.error.Family.{Family};
 ghost use Rattle.nla_frame.specs.declared.error.Family.TheVariants as family;
 ghost use Rattle.linkinfo_view.specs.Laws.{
   Agrees,
+  HasRowOfElements,
+  IsRowOfElements,
   KeepsOthers,
   KeepsRest,
   KeepsShown,
@@ -16,15 +18,26 @@ ghost use Rattle.linkinfo_view.specs.Laws.{
 ghost use Rattle.linkinfo_view.specs.Printable.{IsPrintable};
 ghost use Rattle.linkinfo_view.specs.Text.{escaped_text, is_printable};
 ghost use Rattle.linkinfo_view.specs.View.{attributes_data};
+ghost use Rattle.linkinfo_view.specs.declared.format.Elements.TheVariants as elements;
 ghost use Rattle.linkinfo_view.specs.declared.format.Table.{Table};
 ghost use Rattle.linkinfo_view.specs.declared.format.Table.TheVariants as table;
 
-/// Each row of a family that the library parses has a row here, with the same shape. So reading and
-/// showing cannot differ in a layout.
+/// Each row of the typed layer has a row here with its layout. So reading and showing cannot differ
+/// in one.
+///
+/// The shape is the same, but `U8` for the booleans of bridges and for two of their ports, whose
+/// byte is shown as a number, and `Raw` for records, arrays and lists. Each of these, and the list
+/// of addresses of macvlan, has the one format of its layout; a list of another family is shown by
+/// the table of that family. The family of maps of priorities alone has no table: its one row has
+/// the type and the shape of the elements of `Elements::PriorityPairs`. The elements of
+/// `Elements::HardwareAddresses` have those of a row of macvlan.
 pub fn same_shapes()
-    ensures families { (f : Family) → Agrees (table.Family f) f }
+    ensures families { (f : Family) → f ≢ family.VlanQosMapping → Agrees (table.Family f) f }
     ensures sit { Agrees table.Sit family.IpTunnel }
     ensures ip6_tunnel { Agrees table.Ip6Tunnel family.IpTunnel }
+    ensures priority_pairs { IsRowOfElements family.VlanQosMapping elements.PriorityPairs }
+    ensures hardware_addresses { HasRowOfElements family.MacVlan elements.HardwareAddresses
+        × HasRowOfElements family.MacVtap elements.HardwareAddresses }
 {}
 
 /// The names of the members that rows give are distinct in each table, and none is `others` or

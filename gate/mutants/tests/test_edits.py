@@ -104,6 +104,8 @@ class Edits(unittest.TestCase):
                 "InfoVethOfParseableNlaBuffer",
             "impl<F: RowFamily> LinkFamily for F": "AnyLinkFamily",
             "impl<F: RowFamily> CustomRows<F> for ()": "UnitCustomRows",
+            "impl From<(u32, u32)> for CanCtrlMode": "CanCtrlModeFromTuple2U32U32",
+            "impl From<CanCtrlMode> for (u32, u32)": "Tuple2U32U32FromCanCtrlMode",
             "impl<F, R: PayloadRow<F>, Rest> CustomRows<F> for (R, Rest)": "Tuple2CustomRows",
             "impl<const N: usize> Fixed for [u8; N]": "ArrayU8Fixed",
             "pub trait Nla": "Nla",

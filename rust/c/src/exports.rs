@@ -13,10 +13,11 @@ use crate::calls::check::{self, LinkinfoCount, LinkinfoErrorAt, LinkinfoInnerErr
 use crate::calls::difference::{self, LinkinfoDifference};
 use crate::calls::error::LinkinfoError;
 use crate::calls::items::{self, LinkinfoItem, LinkinfoListResult};
+use crate::calls::messages::{self, LinkinfoLink, LinkinfoMessageError};
 use crate::calls::texts;
 use crate::calls::unmet::{self, LinkinfoUnmet};
 use crate::calls::usage;
-use crate::calls::values::{self, LinkinfoValuedAttribute};
+use crate::calls::values::{self, LinkinfoPlacedValue, LinkinfoValuedAttribute};
 use core::alloc::{GlobalAlloc, Layout};
 use core::ptr::null_mut;
 
@@ -137,6 +138,11 @@ unsafe extern "C" fn linkinfo_count(bytes: *const u8, length: usize) -> Linkinfo
 }
 
 #[unsafe(no_mangle)]
+unsafe extern "C" fn linkinfo_count_opaque(bytes: *const u8, length: usize) -> LinkinfoCount {
+    check::linkinfo_count_opaque(unsafe { slice(bytes, length) })
+}
+
+#[unsafe(no_mangle)]
 unsafe extern "C" fn linkinfo_canon(
     bytes: *const u8,
     length: usize,
@@ -199,6 +205,25 @@ unsafe extern "C" fn linkinfo_values(
 }
 
 #[unsafe(no_mangle)]
+unsafe extern "C" fn linkinfo_next_link(
+    bytes: *const u8,
+    length: usize,
+    cursor: usize,
+) -> LinkinfoLink {
+    messages::linkinfo_next_link(unsafe { slice(bytes, length) }, cursor)
+}
+
+#[unsafe(no_mangle)]
+unsafe extern "C" fn linkinfo_message_error_text(
+    error: LinkinfoMessageError,
+    place: usize,
+    buffer: *mut u8,
+    length: usize,
+) -> usize {
+    messages::linkinfo_message_error_text(error, place, unsafe { slice_mut(buffer, length) })
+}
+
+#[unsafe(no_mangle)]
 unsafe extern "C" fn linkinfo_family_name(family: u16, buffer: *mut u8, length: usize) -> usize {
     texts::linkinfo_family_name(family, unsafe { slice_mut(buffer, length) })
 }
@@ -245,6 +270,15 @@ unsafe extern "C" fn linkinfo_attribute_name(
     length: usize,
 ) -> usize {
     texts::linkinfo_attribute_name(family, kind, unsafe { slice_mut(buffer, length) })
+}
+
+#[unsafe(no_mangle)]
+unsafe extern "C" fn linkinfo_value_at(
+    bytes: *const u8,
+    length: usize,
+    offset: usize,
+) -> LinkinfoPlacedValue {
+    values::linkinfo_value_at(unsafe { slice(bytes, length) }, offset)
 }
 
 #[unsafe(no_mangle)]

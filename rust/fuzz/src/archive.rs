@@ -14,6 +14,9 @@ use linkinfo_c::calls::difference::{
 };
 use linkinfo_c::calls::error::LinkinfoError;
 use linkinfo_c::calls::items::{LinkinfoItem, LinkinfoListResult, linkinfo_items};
+use linkinfo_c::calls::messages::{
+    LinkinfoLink, LinkinfoMessageError, linkinfo_message_error_text, linkinfo_next_link,
+};
 use linkinfo_c::calls::texts::linkinfo_error_text;
 use linkinfo_c::calls::unmet::{LinkinfoUnmet, linkinfo_first_unmet, linkinfo_first_unmet_opaque};
 use linkinfo_c::calls::values::{LinkinfoValue, LinkinfoValuedAttribute, linkinfo_values};
@@ -21,8 +24,8 @@ use linkinfo_c::calls::values::{LinkinfoValue, LinkinfoValuedAttribute, linkinfo
 mod c {
     use super::{
         LinkinfoAttribute, LinkinfoCanon, LinkinfoCount, LinkinfoDifference, LinkinfoError,
-        LinkinfoErrorAt, LinkinfoInnerError, LinkinfoItem, LinkinfoListResult, LinkinfoSame,
-        LinkinfoUnmet, LinkinfoValuedAttribute,
+        LinkinfoErrorAt, LinkinfoInnerError, LinkinfoItem, LinkinfoLink, LinkinfoListResult,
+        LinkinfoMessageError, LinkinfoSame, LinkinfoUnmet, LinkinfoValuedAttribute,
     };
 
     unsafe extern "C" {
@@ -100,6 +103,13 @@ mod c {
             values_length: usize,
         ) -> LinkinfoListResult;
         pub fn linkinfo_error_text(error: LinkinfoError, buffer: *mut u8, length: usize) -> usize;
+        pub fn linkinfo_next_link(bytes: *const u8, length: usize, cursor: usize) -> LinkinfoLink;
+        pub fn linkinfo_message_error_text(
+            error: LinkinfoMessageError,
+            place: usize,
+            buffer: *mut u8,
+            length: usize,
+        ) -> usize;
     }
 }
 
@@ -164,6 +174,53 @@ pub fn compare(random: &mut Random, bytes: &[u8], second: &[u8]) {
     canonical(random, bytes);
     texts(random, error);
     items(random, bytes);
+    messages(random, bytes, second);
+}
+
+/// A link message with these bytes as its link info, of which a length or a type may be changed.
+fn message(random: &mut Random, info: &[u8]) -> Vec<u8> {
+    let mut bytes = vec![0; 36];
+    bytes.extend_from_slice(info);
+    let length = bytes.len();
+    bytes[..4].copy_from_slice(&(length as u32).to_le_bytes());
+    bytes[4] = 14 + random.below(5) as u8;
+    bytes[32..34].copy_from_slice(&((4 + info.len()) as u16).to_le_bytes());
+    bytes[34] = if random.once_in(4) { 3 } else { 18 };
+    if random.once_in(3) {
+        let at = random.below(36);
+        bytes[at] ^= 1 << random.below(8);
+    }
+    bytes.resize(length.next_multiple_of(4), 0);
+    bytes
+}
+
+/// Two messages, each link message in turn, and from some cursors.
+fn messages(random: &mut Random, first: &[u8], second: &[u8]) {
+    let mut bytes = message(random, first);
+    bytes.extend(message(random, second));
+    bytes.truncate(bytes.len() - random.below(4));
+    let (start, length) = (bytes.as_ptr(), bytes.len());
+    let mut cursor = 0;
+    for _ in 0..4 {
+        let link = linkinfo_next_link(&bytes, cursor);
+        assert_eq!(link, unsafe {
+            c::linkinfo_next_link(start, length, cursor)
+        });
+        let mut ours = [0xa5; 100];
+        let mut theirs = ours;
+        let room = random.below(101);
+        let (error, place) = (link.error, link.place);
+        let text = linkinfo_message_error_text(error, place, &mut ours[..room]);
+        assert_eq!(text, unsafe {
+            c::linkinfo_message_error_text(error, place, theirs.as_mut_ptr(), room)
+        });
+        assert_eq!(ours, theirs);
+        cursor = if random.once_in(4) {
+            random.below(length + 8)
+        } else {
+            link.next
+        };
+    }
 }
 
 /// The calls that keep attributes of bonds, bridges and their like verbatim.

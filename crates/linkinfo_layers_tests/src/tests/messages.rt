@@ -47,6 +47,7 @@ fn first_link() -> LinkMessage<'static> {
         index: 7,
         flags: 3,
         name: Some(b"vr0"),
+        name_place: Some(36),
         info: Some(LinkContents {
             place: 52,
             bytes: &[8, 0, 1, 0, b'v', b'r', b'f', 0],
@@ -62,6 +63,7 @@ fn second_link() -> LinkMessage<'static> {
         index: -2,
         flags: 0x8000_0000,
         name: Some(b"bcd"),
+        name_place: Some(104),
         info: None,
     }
 }
@@ -97,6 +99,38 @@ fn links_of_a_dump(rt: HostRuntime) {
     assert_is(&rt, "end", links.next(), None);
     assert_is(&rt, "offset at the end", links.place(), 144);
     assert_is(&rt, "after the end", links.next(), None);
+}
+
+/// An iterator starts at each offset: at one of a message, at the end and after it, and at others,
+/// whose bytes are read as a message.
+#[test]
+fn links_from_an_offset(rt: HostRuntime) {
+    let cases = [
+        (0, Some(Ok(first_link())), 60),
+        (60, Some(Ok(second_link())), 108),
+        (108, None, 144),
+        (124, None, 144),
+        (144, None, 144),
+        (145, None, 144),
+        (usize::MAX, None, 144),
+        // The bytes 16, 0, 2, 0 as a length.
+        (4, rejected(4, MessageCause::Long(0x0002_0010)), 4),
+        // The port 2 of the first message as a length.
+        (12, rejected(12, MessageCause::Short(2)), 12),
+        (141, rejected(141, MessageCause::Header), 141),
+    ];
+    for (start, item, place) in &cases {
+        let mut links = LinkMessages::starting_at(dump(), *start);
+        assert_is(&rt, *start, links.next(), *item);
+        assert_is(&rt, *start, links.place(), *place);
+    }
+}
+
+fn rejected(
+    place: usize,
+    cause: MessageCause,
+) -> Option<Result<LinkMessage<'static>, MessageError>> {
+    Some(Err(MessageError { place, cause }))
 }
 
 /// The headers of the dump are at 0 and, of attributes, 32, 40 and 48; at 60 and, of attributes, 92

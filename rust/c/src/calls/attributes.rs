@@ -7,13 +7,10 @@ use crate::calls::codes::{
 };
 use crate::calls::error::{NO_ERROR, error_record};
 use crate::calls::items::{LinkinfoListResult, write_at};
-use linkinfo::layers::link::families::{Datum, Shape, read_datum, typed_shape};
-use linkinfo::layers::link::{
-    DataFamily, DeviceFamily, Family, KindTag, LowerFamily, NlaBuffer, NlasIterator, PeeredFamily,
-    PortFamily, TunnelFamily, family_of, port_family_of,
+use linkinfo::layers::link::families::{
+    Datum, Shape, data_name, port_data_name, read_datum, shape_under,
 };
-
-const IFLA_IPTUN_FLAGS: u16 = 8;
+use linkinfo::layers::link::{Family, KindTag, NlaBuffer, NlasIterator, family_of, port_family_of};
 
 /// `struct linkinfo_attribute`: an attribute in data.
 #[repr(C)]
@@ -71,107 +68,10 @@ fn of_family(family: Option<Family>, kind: Option<KindTag>) -> Option<Contents> 
     Some(Contents::Attributes(family, kind))
 }
 
-fn data_name(family: DataFamily) -> Option<Family> {
-    match family {
-        DataFamily::Lower(family) => Some(lower_name(family)),
-        DataFamily::Device(family) => Some(device_name(family)),
-        DataFamily::Tunnel(family) => Some(tunnel_name(family)),
-        DataFamily::Peered(family) => Some(peered_name(family)),
-        DataFamily::Raw => None,
-    }
-}
-
-fn lower_name(family: LowerFamily) -> Family {
-    match family {
-        // Begin: written by tables/generate from tables/kinds (lower).
-        LowerFamily::Bridge => Family::Bridge,
-        LowerFamily::Tun => Family::Tun,
-        LowerFamily::Vlan => Family::Vlan,
-        LowerFamily::Bond => Family::Bond,
-        LowerFamily::Hsr => Family::Hsr,
-        LowerFamily::Can => Family::Can,
-        LowerFamily::Dsa => Family::Dsa,
-        // End: written by tables/generate.
-    }
-}
-
-fn device_name(family: DeviceFamily) -> Family {
-    match family {
-        // Begin: written by tables/generate from tables/kinds (device).
-        DeviceFamily::IpVlan => Family::IpVlan,
-        DeviceFamily::IpVtap => Family::IpVtap,
-        DeviceFamily::MacVlan(_) => Family::MacVlan,
-        DeviceFamily::MacVtap(_) => Family::MacVtap,
-        DeviceFamily::Vrf => Family::Vrf,
-        DeviceFamily::Ipoib => Family::Ipoib,
-        DeviceFamily::Xfrm => Family::Xfrm,
-        DeviceFamily::MacSec => Family::MacSec,
-        DeviceFamily::RmNet => Family::RmNet,
-        // End: written by tables/generate.
-    }
-}
-
-fn tunnel_name(family: TunnelFamily) -> Family {
-    match family {
-        // Begin: written by tables/generate from tables/kinds (tunnel).
-        TunnelFamily::Vxlan => Family::Vxlan,
-        TunnelFamily::GreTap | TunnelFamily::GreTun | TunnelFamily::ErSpan => Family::Gre,
-        TunnelFamily::GreTap6 | TunnelFamily::GreTun6 | TunnelFamily::Ip6ErSpan => Family::Gre6,
-        TunnelFamily::IpTunnel(_) => Family::IpTunnel,
-        TunnelFamily::Vti => Family::Vti,
-        TunnelFamily::Gtp => Family::Gtp,
-        TunnelFamily::Geneve => Family::Geneve,
-        TunnelFamily::Amt => Family::Amt,
-        TunnelFamily::BareUdp => Family::BareUdp,
-        // End: written by tables/generate.
-    }
-}
-
-fn peered_name(family: PeeredFamily) -> Family {
-    match family {
-        // Begin: written by tables/generate from tables/kinds (peered).
-        PeeredFamily::Veth => Family::Veth,
-        PeeredFamily::Wireguard => Family::Wireguard,
-        PeeredFamily::Netkit => Family::Netkit,
-        PeeredFamily::Vxcan => Family::Vxcan,
-        PeeredFamily::BatAdv => Family::BatAdv,
-        PeeredFamily::Wwan => Family::Wwan,
-        PeeredFamily::Pfcp => Family::Pfcp,
-        // End: written by tables/generate.
-    }
-}
-
-fn port_data_name(family: PortFamily) -> Option<Family> {
-    match family {
-        PortFamily::Bond => Some(Family::BondPort),
-        PortFamily::Bridge => Some(Family::BridgePort),
-        PortFamily::Vrf => Some(Family::Vrf),
-        PortFamily::Team => Some(Family::TeamPort),
-        PortFamily::Raw => None,
-    }
-}
-
-/// The shape of the tunnel flags (`IFLA_IPTUN_FLAGS`) under a kind.
-fn flags_shape(kind: Option<KindTag>) -> Option<Shape> {
-    match kind {
-        Some(KindTag::IpIp) | Some(KindTag::SitTun) => Some(Shape::Be16),
-        Some(KindTag::Ip6Tnl) => Some(Shape::Le32),
-        _ => None,
-    }
-}
-
-/// The shape of a type without flag bits, in a family and under a kind.
-fn shape_of_family(family: Family, kind: Option<KindTag>, masked: u16) -> Option<Shape> {
-    match family {
-        Family::IpTunnel if masked == IFLA_IPTUN_FLAGS => flags_shape(kind),
-        _ => typed_shape(family, masked),
-    }
-}
-
 /// The shape of a type without flag bits among these attributes.
 fn shape_in(contents: Contents, masked: u16) -> Option<Shape> {
     match contents {
-        Contents::Attributes(family, kind) => shape_of_family(family, kind, masked),
+        Contents::Attributes(family, kind) => shape_under(kind, family, masked),
         Contents::Addresses(shape) => Some(shape),
     }
 }

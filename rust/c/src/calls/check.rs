@@ -144,14 +144,26 @@ pub fn linkinfo_same_opaque(a: &[u8], b: &[u8]) -> LinkinfoSame {
     same_record(same_at_of::<Bytes>(a, b))
 }
 
-/// Validates a list, and counts the headers examined up to its error: at most a quarter of its
-/// bytes.
-#[must_use]
-pub fn linkinfo_count(bytes: &[u8]) -> LinkinfoCount {
+/// Validates a list over a layer, and counts the headers examined up to its error.
+fn counted<P: DataLayer>(bytes: &[u8]) -> LinkinfoCount {
     let mut count = HeaderCount::new();
-    let error = error_or_none(check_counted_of::<Typed<Bytes>>(bytes, &mut count));
+    let error = error_or_none(check_counted_of::<P>(bytes, &mut count));
     LinkinfoCount {
         error,
         count: count.get(),
     }
+}
+
+/// Validates a list, and counts the headers examined up to its error: at most a quarter of its
+/// bytes.
+#[must_use]
+pub fn linkinfo_count(bytes: &[u8]) -> LinkinfoCount {
+    counted::<Typed<Bytes>>(bytes)
+}
+
+/// Validates a list and counts headers as `linkinfo_count` does, over the layer that keeps
+/// attributes of bonds, bridges and their like verbatim.
+#[must_use]
+pub fn linkinfo_count_opaque(bytes: &[u8]) -> LinkinfoCount {
+    counted::<Bytes>(bytes)
 }

@@ -10,6 +10,7 @@ mod codes;
 pub mod difference;
 pub mod error;
 pub mod items;
+pub mod messages;
 pub mod texts;
 pub mod unmet;
 pub mod usage;

@@ -18,7 +18,7 @@ use linkinfo::layers::names::problem;
 
 /// Writes a text and a NUL after it, truncated to the buffer, and returns the length of the whole
 /// text.
-fn write_text(text: &str, buffer: &mut [u8]) -> usize {
+pub(crate) fn write_text(text: &str, buffer: &mut [u8]) -> usize {
     if let Some(room) = buffer.len().checked_sub(1) {
         let shown = text.len().min(room);
         buffer[..shown].copy_from_slice(&text.as_bytes()[..shown]);

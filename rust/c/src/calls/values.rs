@@ -3,10 +3,10 @@
 //! The attributes in data with their values, written into an array of the caller.
 
 use crate::calls::attributes::{AttributeRecord, datum_in, write_inside};
-use crate::calls::codes::{V4_LIST, V6_LIST, list_code, shape_code};
+use crate::calls::codes::{V4_LIST, V6_LIST, family_code, list_code, shape_code};
 use crate::calls::items::LinkinfoListResult;
-use linkinfo::layers::link::NlaBuffer;
 use linkinfo::layers::link::families::{Datum, Shape};
+use linkinfo::layers::link::{NlaBuffer, attribute_at};
 
 /// The values of `enum linkinfo_value_type`, from `LINKINFO_VALUE_NONE` on.
 const NONE: u32 = 0;
@@ -215,4 +215,43 @@ pub fn linkinfo_values(
     attributes: &mut [LinkinfoValuedAttribute],
 ) -> LinkinfoListResult {
     write_inside(bytes, kind, attributes)
+}
+
+/// `struct linkinfo_placed_value`: the attribute at an offset in a list, and its value.
+#[repr(C)]
+#[derive(Clone, Copy, Debug, PartialEq, Eq, Hash, PartialOrd, Ord)]
+pub struct LinkinfoPlacedValue {
+    /// The attribute, with its offset in the list; all of it 0 if there is none.
+    pub attribute: LinkinfoValuedAttribute,
+    /// The family of the attribute, `enum linkinfo_family`; 0 if there is none.
+    pub family: u16,
+    /// Whether an attribute begins at the offset.
+    pub is_found: bool,
+}
+
+const NO_ATTRIBUTE: LinkinfoPlacedValue = LinkinfoPlacedValue {
+    attribute: LinkinfoValuedAttribute {
+        place: 0,
+        len: 0,
+        value: NO_VALUE,
+        raw_kind: 0,
+        shape: 0,
+    },
+    family: 0,
+    is_found: false,
+};
+
+/// Returns the attribute whose header is at an offset in a list, with its value: one of the list,
+/// of data or port data, or of a list nested there. No attribute is there if none begins at that
+/// offset, also if it is the offset of an element of a list of addresses.
+#[must_use]
+pub fn linkinfo_value_at(bytes: &[u8], offset: usize) -> LinkinfoPlacedValue {
+    match attribute_at(bytes, offset) {
+        Some(found) => LinkinfoPlacedValue {
+            attribute: LinkinfoValuedAttribute::of_attribute(offset, found.shape, &found.nla),
+            family: family_code(found.family),
+            is_found: true,
+        },
+        None => NO_ATTRIBUTE,
+    }
 }

@@ -58,7 +58,8 @@ impl Table {
 pub struct Row {
     /// The member's name, as `ip -j` prints it.
     pub name: &'static str,
-    /// The layout of the payload. That of the library's own rows is the same.
+    /// The layout of the payload: that of the library's own row, but `U8` for some booleans, and
+    /// `Raw` for records, arrays and lists, whose bytes the format reads.
     pub shape: Shape,
     /// How the payload's value is shown.
     pub format: Format,

@@ -9,6 +9,8 @@
 pub use crate::layers::data::{
     DataLayer, Encode, FitLen, Layered, Plain, PlainFamilies, TypedFamilies, TypedRows, Write,
 };
+pub use crate::layers::link::named::{data_name, port_data_name, shape_under};
+pub use crate::layers::names::{FamilyNla, list_attribute_at};
 pub use crate::layers::nla_frame::{
     emit_i32, emit_u16, emit_u16_be, emit_u32, emit_u32_be, emit_u64, emit_u64_be, fitting,
     write_attribute, write_attributes, write_bytes, write_bytes_attribute, write_frame,

@@ -15,8 +15,10 @@ pub mod families;
 mod item;
 mod link_info;
 mod list;
+mod named;
 mod placed;
 mod role;
+mod standing;
 pub mod typed;
 mod unmet;
 mod walk;
@@ -43,6 +45,7 @@ pub use list::{
     same_at_of, same_counted, same_counted_of, same_of,
 };
 pub use placed::{ErrorAt, ErrorIn, check_at, check_at_of};
+pub use standing::{AttributeAt, attribute_at};
 pub use unmet::{first_unmet, first_unmet_of};
 pub use walk::{LinkInfoItem, LinkInfoWalk};
 pub use xstats::LinkXstats;

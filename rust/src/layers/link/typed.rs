@@ -65,7 +65,7 @@ pub fn check(bytes: &[u8]) -> Result<(), DecodeError> {
 }
 
 /// Validates the contents of `IFLA_LINKINFO` over the typed layer, and returns the offsets of the
-/// error beside it: in data, and in the maps of priorities inside. Does not allocate.
+/// error beside it: in data, and in every list nested in it. Does not allocate.
 pub fn check_at(bytes: &[u8]) -> Result<(), ErrorAt> {
     check_at_of::<Typed<Bytes>>(bytes)
 }

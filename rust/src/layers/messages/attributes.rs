@@ -16,6 +16,8 @@ const IFLA_LINKINFO: u16 = 18;
 pub(crate) struct LinkAttributes<'a> {
     /// The name without its closing NUL.
     pub(crate) name: Option<&'a [u8]>,
+    /// The offset of the name.
+    pub(crate) name_place: Option<usize>,
     /// The contents of the link info.
     pub(crate) info: Option<LinkContents<'a>>,
 }
@@ -27,10 +29,12 @@ impl<'a> LinkAttributes<'a> {
         match nla.kind() {
             IFLA_IFNAME => LinkAttributes {
                 name: Some(without_nul(nla.value())),
+                name_place: Some(place + 4),
                 info: self.info,
             },
             IFLA_LINKINFO => LinkAttributes {
                 name: self.name,
+                name_place: self.name_place,
                 info: Some(LinkContents {
                     place: place + 4,
                     bytes: nla.value(),
@@ -50,6 +54,7 @@ pub(crate) fn attributes_of<'a>(
 ) -> Result<LinkAttributes<'a>, usize> {
     let mut attributes = LinkAttributes {
         name: None,
+        name_place: None,
         info: None,
     };
     let mut nlas = NlasIterator::new(bytes);

@@ -41,6 +41,25 @@ impl<'a> LinkMessages<'a> {
         }
     }
 
+    /// An iterator that starts at this offset of the bytes, as [`new`] does at 0. It yields nothing
+    /// if the offset is the number of bytes or exceeds it. It yields at most one item per sixteen
+    /// bytes, and one more.
+    ///
+    /// A caller that keeps [`place`] of an iterator continues there later. If the offset is not
+    /// that of a message, the bytes there are read as one all the same.
+    ///
+    /// [`new`]: crate::layers::messages::LinkMessages::new
+    /// [`place`]: crate::layers::messages::LinkMessages::place
+    #[must_use]
+    pub fn starting_at(bytes: &'a [u8], place: usize) -> LinkMessages<'a> {
+        LinkMessages {
+            bytes,
+            place: place.min(bytes.len()),
+            examined: HeaderCount::new(),
+            failed: false,
+        }
+    }
+
     /// The number of headers examined so far: those of messages of which all 16 bytes are there,
     /// and those of attributes of link messages of which all four bytes are there. It is at most a
     /// quarter of the number of bytes.

@@ -6,9 +6,11 @@
 mod entries;
 mod explanation;
 mod names;
+mod standing;
 mod usage;
 mod uses;
 
 pub use explanation::{Explanation, problem};
 pub use names::attribute_name;
+pub use standing::{FamilyNla, list_attribute_at};
 pub use usage::{AttributeUse, attribute_use};

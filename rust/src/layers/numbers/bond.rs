@@ -777,6 +777,19 @@ impl Flags for LacpState {
     }
 }
 
+/// Every number is a set.
+impl From<u8> for LacpState {
+    fn from(bits: u8) -> LacpState {
+        LacpState(bits)
+    }
+}
+
+impl From<LacpState> for u8 {
+    fn from(set: LacpState) -> u8 {
+        set.0
+    }
+}
+
 impl KeepsEveryBit for LacpState {}
 
 /// Writes the words of the flags, and other bits in hex, with commas between them; of the empty set
@@ -883,6 +896,19 @@ impl Flags for LacpState16 {
 
     fn from_bits_retain(bits: u16) -> LacpState16 {
         LacpState16(bits)
+    }
+}
+
+/// Every number is a set.
+impl From<u16> for LacpState16 {
+    fn from(bits: u16) -> LacpState16 {
+        LacpState16(bits)
+    }
+}
+
+impl From<LacpState16> for u16 {
+    fn from(set: LacpState16) -> u16 {
+        set.0
     }
 }
 

@@ -280,6 +280,19 @@ impl Flags for BridgeBooleanOptionFlags {
     }
 }
 
+/// Every number is a set.
+impl From<u32> for BridgeBooleanOptionFlags {
+    fn from(bits: u32) -> BridgeBooleanOptionFlags {
+        BridgeBooleanOptionFlags(bits)
+    }
+}
+
+impl From<BridgeBooleanOptionFlags> for u32 {
+    fn from(set: BridgeBooleanOptionFlags) -> u32 {
+        set.0
+    }
+}
+
 impl KeepsEveryBit for BridgeBooleanOptionFlags {}
 
 /// Writes the words of the flags, and other bits in hex, with commas between them; of the empty set
@@ -325,6 +338,24 @@ pub struct BridgeBooleanOptions {
     pub value: BridgeBooleanOptionFlags,
     /// The options to change, in a reply those that the kernel has (`optmask`).
     pub mask: BridgeBooleanOptionFlags,
+}
+
+/// Both sets of their numbers, in the order of the payload.
+impl From<(u32, u32)> for BridgeBooleanOptions {
+    fn from(pair: (u32, u32)) -> BridgeBooleanOptions {
+        let (value, mask) = pair;
+        BridgeBooleanOptions {
+            value: BridgeBooleanOptionFlags(value),
+            mask: BridgeBooleanOptionFlags(mask),
+        }
+    }
+}
+
+/// The numbers of both sets, in the order of the payload.
+impl From<BridgeBooleanOptions> for (u32, u32) {
+    fn from(options: BridgeBooleanOptions) -> (u32, u32) {
+        (options.value.0, options.mask.0)
+    }
 }
 
 impl ExactEq for BridgeBooleanOptions {}

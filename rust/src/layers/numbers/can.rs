@@ -185,6 +185,19 @@ impl Flags for CanCtrlModeFlags {
     }
 }
 
+/// Every number is a set.
+impl From<u32> for CanCtrlModeFlags {
+    fn from(bits: u32) -> CanCtrlModeFlags {
+        CanCtrlModeFlags(bits)
+    }
+}
+
+impl From<CanCtrlModeFlags> for u32 {
+    fn from(set: CanCtrlModeFlags) -> u32 {
+        set.0
+    }
+}
+
 impl KeepsEveryBit for CanCtrlModeFlags {}
 
 /// Writes the words of the flags, and other bits in hex, with commas between them; of the empty set
@@ -230,6 +243,24 @@ pub struct CanCtrlMode {
     pub mask: CanCtrlModeFlags,
     /// The modes that are on.
     pub flags: CanCtrlModeFlags,
+}
+
+/// Both sets of their numbers, in the order of the payload.
+impl From<(u32, u32)> for CanCtrlMode {
+    fn from(pair: (u32, u32)) -> CanCtrlMode {
+        let (mask, flags) = pair;
+        CanCtrlMode {
+            mask: CanCtrlModeFlags(mask),
+            flags: CanCtrlModeFlags(flags),
+        }
+    }
+}
+
+/// The numbers of both sets, in the order of the payload.
+impl From<CanCtrlMode> for (u32, u32) {
+    fn from(mode: CanCtrlMode) -> (u32, u32) {
+        (mode.mask.0, mode.flags.0)
+    }
 }
 
 impl ExactEq for CanCtrlMode {}

@@ -169,6 +169,19 @@ impl Flags for GreIOFlags {
     }
 }
 
+/// Every number is a set.
+impl From<u16> for GreIOFlags {
+    fn from(bits: u16) -> GreIOFlags {
+        GreIOFlags(bits)
+    }
+}
+
+impl From<GreIOFlags> for u16 {
+    fn from(set: GreIOFlags) -> u16 {
+        set.0
+    }
+}
+
 impl KeepsEveryBit for GreIOFlags {}
 
 /// The default is the empty set.
@@ -215,6 +228,19 @@ impl Flags for GreEncapFlags {
 
     fn from_bits_retain(bits: u16) -> GreEncapFlags {
         GreEncapFlags(bits)
+    }
+}
+
+/// Every number is a set.
+impl From<u16> for GreEncapFlags {
+    fn from(bits: u16) -> GreEncapFlags {
+        GreEncapFlags(bits)
+    }
+}
+
+impl From<GreEncapFlags> for u16 {
+    fn from(set: GreEncapFlags) -> u16 {
+        set.0
     }
 }
 

@@ -102,6 +102,19 @@ impl Flags for IpVlanFlags {
     }
 }
 
+/// Every number is a set.
+impl From<u16> for IpVlanFlags {
+    fn from(bits: u16) -> IpVlanFlags {
+        IpVlanFlags(bits)
+    }
+}
+
+impl From<IpVlanFlags> for u16 {
+    fn from(set: IpVlanFlags) -> u16 {
+        set.0
+    }
+}
+
 impl KeepsEveryBit for IpVlanFlags {}
 
 /// The default is the empty set.

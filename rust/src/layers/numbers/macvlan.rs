@@ -147,6 +147,19 @@ impl Flags for MacVlanFlags {
     }
 }
 
+/// Every number is a set.
+impl From<u16> for MacVlanFlags {
+    fn from(bits: u16) -> MacVlanFlags {
+        MacVlanFlags(bits)
+    }
+}
+
+impl From<MacVlanFlags> for u16 {
+    fn from(set: MacVlanFlags) -> u16 {
+        set.0
+    }
+}
+
 impl KeepsEveryBit for MacVlanFlags {}
 
 impl ExactEq for MacVlanFlags {}

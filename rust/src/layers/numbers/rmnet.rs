@@ -56,6 +56,19 @@ impl Flags for RmNetFlags {
     }
 }
 
+/// Every number is a set.
+impl From<u32> for RmNetFlags {
+    fn from(bits: u32) -> RmNetFlags {
+        RmNetFlags(bits)
+    }
+}
+
+impl From<RmNetFlags> for u32 {
+    fn from(set: RmNetFlags) -> u32 {
+        set.0
+    }
+}
+
 impl KeepsEveryBit for RmNetFlags {}
 
 impl ExactEq for RmNetFlags {}

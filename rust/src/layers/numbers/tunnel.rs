@@ -94,6 +94,19 @@ impl Flags for TunnelEncapFlags {
     }
 }
 
+/// Every number is a set.
+impl From<u16> for TunnelEncapFlags {
+    fn from(bits: u16) -> TunnelEncapFlags {
+        TunnelEncapFlags(bits)
+    }
+}
+
+impl From<TunnelEncapFlags> for u16 {
+    fn from(set: TunnelEncapFlags) -> u16 {
+        set.0
+    }
+}
+
 impl KeepsEveryBit for TunnelEncapFlags {}
 
 impl ExactEq for TunnelEncapFlags {}
@@ -161,6 +174,19 @@ impl Flags for Ip6TunnelFlags {
 
     fn from_bits_retain(bits: u32) -> Ip6TunnelFlags {
         Ip6TunnelFlags(bits)
+    }
+}
+
+/// Every number is a set.
+impl From<u32> for Ip6TunnelFlags {
+    fn from(bits: u32) -> Ip6TunnelFlags {
+        Ip6TunnelFlags(bits)
+    }
+}
+
+impl From<Ip6TunnelFlags> for u32 {
+    fn from(set: Ip6TunnelFlags) -> u32 {
+        set.0
     }
 }
 

@@ -125,6 +125,19 @@ impl Flags for VlanFlags {
     }
 }
 
+/// Every number is a set.
+impl From<u32> for VlanFlags {
+    fn from(bits: u32) -> VlanFlags {
+        VlanFlags(bits)
+    }
+}
+
+impl From<VlanFlags> for u32 {
+    fn from(set: VlanFlags) -> u32 {
+        set.0
+    }
+}
+
 impl KeepsEveryBit for VlanFlags {}
 
 /// Writes the words of the flags, and other bits in hex, with commas between them; of the empty set

@@ -50,7 +50,8 @@ pub enum Datum<'a> {
     ///
     /// [`Shape::Mac`]: crate::layers::shapes::Shape::Mac
     Mac([u8; 6]),
-    /// The two numbers of [`Shape::BePair`], or flags and mask of [`Shape::FlagPair`].
+    /// The two numbers of [`Shape::BePair`] and of [`Shape::FlagPair`], in the order of the
+    /// payload.
     ///
     /// [`Shape::BePair`]: crate::layers::shapes::Shape::BePair
     /// [`Shape::FlagPair`]: crate::layers::shapes::Shape::FlagPair

@@ -156,7 +156,7 @@ pub fn be_pair<'a>(kind: u16, pair: (u16, u16)) -> Encodable<'a> {
     )
 }
 
-/// Two little-endian numbers of four bytes each: flags, then their mask.
+/// Two little-endian numbers of four bytes each.
 #[must_use]
 #[inline(always)]
 pub fn flag_pair<'a>(kind: u16, pair: (u32, u32)) -> Encodable<'a> {

@@ -291,6 +291,57 @@ fn sets_of_bits() {
 }
 
 #[test]
+fn sets_of_numbers() {
+    assert!(GreIOFlags::from(0x8000) == GreIOFlags::Checksum);
+    assert!(GreEncapFlags::from(4) == GreEncapFlags::RemoteChecksum);
+    assert!(TunnelEncapFlags::from(2) == TunnelEncapFlags::CSum6);
+    assert!(Ip6TunnelFlags::from(0x0004_0000) == Ip6TunnelFlags::CapPerPacket);
+    assert!(IpVlanFlags::from(2) == IpVlanFlags::Vepa);
+    assert!(MacVlanFlags::from(2) == MacVlanFlags::NoDst);
+    assert!(RmNetFlags::from(0x20) == RmNetFlags::EgressMapCksumV5);
+    assert!(VlanFlags::from(0x10) == VlanFlags::BridgeBinding);
+    assert!(BridgeBooleanOptionFlags::from(4) == BridgeBooleanOptionFlags::MstEnable);
+    assert!(CanCtrlModeFlags::from(0x20) == CanCtrlModeFlags::Fd);
+    assert!(LacpState::from(0x80) == LacpState::Expired);
+    assert!(LacpState16::from(0x40) == LacpState16::Defaulted);
+}
+
+#[test]
+fn numbers_of_sets() {
+    let short = [
+        u16::from(GreIOFlags::from(0x7fff)),
+        u16::from(GreEncapFlags::RemoteChecksum),
+        u16::from(TunnelEncapFlags::CSum6),
+        u16::from(IpVlanFlags::Vepa),
+        u16::from(MacVlanFlags::NoDst),
+        u16::from(LacpState16::Defaulted),
+    ];
+    assert_is("16 bits", short, [0x7fff, 4, 2, 2, 2, 0x40]);
+    let long = [
+        u32::from(Ip6TunnelFlags::CapPerPacket),
+        u32::from(RmNetFlags::EgressMapCksumV5),
+        u32::from(VlanFlags::from(u32::MAX)),
+        u32::from(BridgeBooleanOptionFlags::MstEnable),
+        u32::from(CanCtrlModeFlags::Fd),
+    ];
+    assert_is("32 bits", long, [0x0004_0000, 0x20, u32::MAX, 4, 0x20]);
+    assert_is("8 bits", u8::from(LacpState::Expired), 0x80);
+}
+
+/// The mask is first in the payload of a CAN mode, the value in that of bridge options.
+#[test]
+fn pairs_of_numbers() {
+    let mode = CanCtrlMode::from((0x20, 0x01));
+    assert!(mode.mask == CanCtrlModeFlags::Fd);
+    assert!(mode.flags == CanCtrlModeFlags::Loopback);
+    assert_is("mode", <(u32, u32)>::from(mode), (0x20, 0x01));
+    let options = BridgeBooleanOptions::from((0x01, 0x04));
+    assert!(options.value == BridgeBooleanOptionFlags::NoLinkLocalLearn);
+    assert!(options.mask == BridgeBooleanOptionFlags::MstEnable);
+    assert_is("options", <(u32, u32)>::from(options), (0x01, 0x04));
+}
+
+#[test]
 fn flags_under_a_mask() {
     let flags = RmNetFlags::from_bits_retain(1);
     let mask = RmNetFlags::from_bits_retain(255);

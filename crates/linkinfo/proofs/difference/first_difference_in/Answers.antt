@@ -1,5 +1,5 @@
 use Rattle.std.specs.Prelude.{IsOk}
-use Rattle.std.proofs.Common.{arith, ap, refl, sym, subst, ◌∙◌, ◌-◌, ◌≡◌, length, Result}
+use Rattle.std.proofs.Common.{arith, ap, sym, subst, ◌∙◌, ◌-◌, ◌≡◌, length, Result}
 use Rattle.nla_frame.specs.Attribute.{masked}
 use Rattle.nla_frame.specs.NlaItems.{nla_items}
 use Rattle.nla_frame.specs.declared.error.DecodeError.{DecodeError}

@@ -5,6 +5,7 @@ use Rattle.linkinfo_messages.proofs.Locating.{
   moved,
   damage_moves,
   name_moves,
+  name_place_moves,
   info_moves,
   counted_at_end,
   counted_at_damage,
@@ -36,10 +37,13 @@ loop-item-preserved c =
       place = refl;
       damaged = damage_moves _ _ _ _ _ h steps.source kept.place ∙ kept.damaged;
       name = name_moves _ _ _ _ _ _ _ next c.with-attributes.ensures.name kept.name;
+      name_place =
+          name_place_moves _ _ _ _ _ _ _ next c.with-attributes.ensures.name_place kept.name_place;
       info = info_moves _ _ _ _ _ _ _ next c.with-attributes.ensures.info kept.info;
       slices =
-          slices_with _ _ _ _ _ _ _ _ _ _ _ _ h kept.source kept.place
-          c.with-attributes.ensures.name c.with-attributes.ensures.info kept.slices;
+          slices_with _ _ _ _ _ _ _ _ _ _ _ _ _ _ h kept.source kept.place
+          c.with-attributes.ensures.name c.with-attributes.ensures.name_place
+          c.with-attributes.ensures.info kept.slices;
       examined = kept.examined;
       counted = steps.counted ∙ kept.counted;
     })

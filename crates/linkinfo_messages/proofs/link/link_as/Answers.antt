@@ -9,7 +9,7 @@ use Rattle.linkinfo_messages.proofs.link.link_as.Goals as goal
 pub returns-in-Ok-clause-slices : goal.returns-in-Ok-clause-slices
 returns-in-Ok-clause-slices c =
     let payload = c.payload-payload.result.now in
-    rw (← c.payload-payload.ensures) (slices_in _ _ _ payload _ 16 _
+    rw (← c.payload-payload.ensures) (slices_in _ _ _ _ payload _ 16 _
     (omega (arith, c.place-place.ensures.place)) c.in-Ok.ensures.slices
     (rest_slice _ payload 16 c.if-payload-lt-LINK_HEADER_LEN.false (take_rest payload 16)))
 
