@@ -152,13 +152,13 @@ pub use layers::numbers::{
 #[doc(inline)]
 pub use layers::data::{Difference, Unmet};
 #[doc(inline)]
+pub use layers::link::{AttributeAt, attribute_at};
+#[doc(inline)]
 pub use layers::link::{
     canon, canon_into, canon_into_of, canon_of, check, check_at, check_at_of, check_counted,
     check_counted_of, check_of, first_difference, first_difference_of, first_unmet, first_unmet_of,
     same, same_at, same_at_of, same_counted, same_counted_of, same_of,
 };
-#[doc(inline)]
-pub use layers::link::{AttributeAt, attribute_at};
 #[doc(inline)]
 pub use layers::nla_frame::HeaderCount;
 
