@@ -13,6 +13,9 @@ type Found = Option<(Family, u16, Option<Shape>)>;
 const VLAN: &str = "09000100 766c616e 00000000 1c000200 06000100 05000000 \
     10000300 0c000100 01000000 02000000";
 
+/// Its data: the id at 0, and the mappings at 8, in them one mapping at 12.
+const VLAN_DATA: &str = "06000100 05000000 10000300 0c000100 01000000 02000000";
+
 /// The flags of an `ip6tnl` link, in the list of their kind.
 const IP6TNL_FLAGS: &str = "0b000100 69703674 6e6c0000 0c000200 08000800 01000000";
 
@@ -110,9 +113,10 @@ fn datum_at<'a>(list: &'a [u8], offset: usize) -> Option<Datum<'a>> {
 #[test]
 fn values_at_offsets(rt: HostRuntime) {
     let list = bytes_of(&rt, rt.alloc(), VLAN);
+    let data = bytes_of(&rt, rt.alloc(), VLAN_DATA);
     let cases = [
         (0, Some(Datum::Text("vlan"))),
-        (12, Some(Datum::Bytes(&list[16..]))),
+        (12, Some(Datum::Bytes(data.as_slice()))),
         (16, Some(Datum::Number(5))),
         // The payload of a list has attributes in turn.
         (24, None),
@@ -128,8 +132,10 @@ fn values_at_offsets(rt: HostRuntime) {
 fn payload_at_offset(rt: HostRuntime) {
     let list = bytes_of(&rt, rt.alloc(), VLAN);
     let mapping = attribute_at(&list, 28).expect(&rt, "a mapping");
-    assert_equal(&rt, &"mapping", &mapping.nla.value(), &&list[32..40]);
-    let in_data = list_attribute_at(Family::Vlan, &list[16..], 12).expect(&rt, "a mapping");
+    let wanted = bytes_of(&rt, rt.alloc(), "01000000 02000000");
+    assert_equal(&rt, &"mapping", &mapping.nla.value(), &wanted.as_slice());
+    let data = bytes_of(&rt, rt.alloc(), VLAN_DATA);
+    let in_data = list_attribute_at(Family::Vlan, &data, 12).expect(&rt, "a mapping");
     assert_equal(&rt, &"family", &in_data.family, &Family::VlanQosMapping);
     assert_equal(&rt, &"in data", &in_data.nla, &mapping.nla);
 }
