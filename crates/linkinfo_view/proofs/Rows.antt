@@ -92,7 +92,7 @@ shape_in t number sh = shown_shape t number
 abbrev wanted_shape : Family → ℕ → Shape → Option Shape
 wanted_shape f number sh = Some (view_shape f number sh)
 
--- the same of the format, if the shape wants one
+-- the same of the format, if the shape has one
 abbrev only_if : Option Format → Option Format → Option Format
 only_if None form = None
 only_if (Some wanted) form = form
