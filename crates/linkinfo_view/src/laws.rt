@@ -29,8 +29,8 @@ ghost use Rattle.linkinfo_view.specs.declared.format.Table.TheVariants as table;
 /// of addresses of macvlan, has the one format of its layout; a list of another family is shown by
 /// the table of that family. The family of maps of priorities alone has no table: its one row has
 /// the type and the shape of the elements of `Elements::PriorityPairs`. The elements of
-/// `Elements::HardwareAddresses` have those of a row of macvlan. Of a row with another shape the law
-/// leaves the format open.
+/// `Elements::HardwareAddresses` have those of a row of macvlan. Of a row with another shape the
+/// law leaves the format open.
 pub fn same_shapes()
     ensures families { (f : Family) → f ≢ family.VlanQosMapping → Agrees (table.Family f) f }
     ensures sit { Agrees table.Sit family.IpTunnel }
