@@ -4,7 +4,7 @@ import pathlib
 import sys
 import unittest
 
-from . import evidence, lists, planted, rows, spelled, written
+from . import counted, evidence, lists, planted, rows, spelled, written
 
 ROOT = pathlib.Path(__file__).resolve().parents[2]
 TABLES = ROOT / "tables"
@@ -36,8 +36,9 @@ def written_cases(tables, kept):
     """What files do not have as the tables have it, by file."""
     for path in written.FILES:
         yield path, written.check(path, tables, read)
-    yield f"how many attributes have a type in {written.FORMAT}", written.check_counts(
-        read, tables[0], kept.numbers, lists.read("apart"))
+    given = read, tables[0], kept.numbers, lists.read("apart")
+    print(f"tables: attributes: {counted.told(*given)}")
+    yield "how many attributes have a type", list(counted.check(*given))
     yield f"counts and formats of {written.SHOW}", written.check_show(read, tables[0])
 
 

@@ -7,7 +7,7 @@ import re
 SECTIONS = {"link": (1, 2, "info_data"), "port": (4, 5, "info_slave_data")}
 MASK = 0x3fff
 # Formats of which `ip` prints other members than that of the attribute.
-PARTS = {"Bits", "FlowInfo", "Names", "SecondNames", "Options", "Nested"}
+PARTS = {"Bits", "FlowInfo", "Names", "SecondNames", "Options", "Nested", "Supported"}
 NUMBERS = {"U8": (1, "little"), "Truth": (1, "little"), "TruthOne": (1, "little"),
            **{f"Le{bits}": (bits // 8, "little") for bits in (16, 32, 64)},
            **{f"Be{bits}": (bits // 8, "big") for bits in (16, 32, 64)}, "I32": (4, "little")}

@@ -158,29 +158,6 @@ def check_list(read, numbers):
             for row in set(rows) ^ set(wanted)]
 
 
-def counts(families, numbers, apart):
-    """How many of the kernel's names of attributes in data have a type in every layer, how many in
-    the typed layer alone, and how many have none: those of rows without a variant, and those that
-    `apart` says have no row."""
-    present, layered, none = set(), set(), set()
-    for family in families:
-        for row in family.rows:
-            (none if not row.variants else layered if family.layered else present).update(row.names)
-    without = {name for name in numbers if apart.reasons.get(name) == "has no row"}
-    return len(present), len(layered - present), len((none | without) - present - layered)
-
-
-def check_counts(read, families, numbers, apart):
-    """What docs/FORMAT.md says otherwise of how many attributes have a type."""
-    present, layered, none = counts(families, numbers, apart)
-    typed_in_one = present + layered
-    wanted = (f"define {typed_in_one + none} attributes in data of links and of ports. "
-              f"{typed_in_one} of them have a type: {present} in every layer, and {layered} in the "
-              f"typed one. The other {none} are kept verbatim")
-    said = " ".join(read(FORMAT).split())
-    return [f"{FORMAT}: it does not say that the headers {wanted}"] * (wanted not in said)
-
-
 def check_show(read, families):
     """What docs/SHOW.md says otherwise of its tables: how many rows, and which formats."""
     said, counts = written_pages.counts(read(SHOW))

@@ -4,6 +4,9 @@ import re
 SPEC_ROWS = re.compile(r"^(\w+) =\n((?:    .*\n)*?)    \[\]\n", re.M)
 SPEC_ROW = re.compile(r"    \((\d+), (\w+(?: family\.\w+)?)\) ∷  -- (.+)")
 SPEC_ARM = re.compile(r"^(?:typed_)?rows_of family\.(\w+) = (\w+)$", re.M)
+TYPES = re.compile(r"^fn (\w+)\(kind: u16\)(.*?)^}", re.M | re.S)
+TYPE = re.compile(r"^ +(\d+) => Some\(Shape::", re.M)
+TYPES_ARM = re.compile(r"^ +((?:(?:\| )?Family::\w+\s*)+) => (\w+)\(kind\),$", re.M)
 LIST = re.compile(r"^pub\(crate\) const (\w+): &\[Entry\] = (?:&\[|rows! \{)(.*?)[\]}];",
                   re.M | re.S)
 NAME_ROW = re.compile(r'\((\d+), "(\w+)"\)')
@@ -29,6 +32,13 @@ def shapes(spec):
                     for number, shape, variants in rows_in(body, SPEC_ROW, name)]
              for name, body in SPEC_ROWS.findall(spec)}
     return {family: lists[name] for family, name in SPEC_ARM.findall(spec)}
+
+
+def types(code):
+    """The families and types that have an arm with a shape."""
+    numbers = {name: [int(it) for it in TYPE.findall(body)] for name, body in TYPES.findall(code)}
+    return {(family, number) for patterns, name in TYPES_ARM.findall(code)
+            for family in re.findall(r"Family::(\w+)", patterns) for number in numbers[name]}
 
 
 def arms(code):

@@ -100,6 +100,7 @@ use Rattle.linkinfo_view.specs.Values.{
   with_name,
   with_option,
 }
+use Rattle.nla_frame.specs.declared.error.Family.TheVariants as family
 use Rattle.linkinfo_view.specs.View.{
   attributes_data,
   element_payload,
@@ -121,6 +122,8 @@ use Rattle.linkinfo_view.specs.View.{
   rest_member,
   row_before,
   shown_in,
+  supported_members,
+  supported_modes,
   with_label,
 }
 use Rattle.linkinfo_view.specs.Words.{FlagRow, flag_at, word}
@@ -428,6 +431,10 @@ deeper_all n (x ∷ xs) le h = (deeper 1 n x.1 le h.0, deeper_all n xs le h.1)
 abbrev first_named : List ℕ → value.Value → List Named → List Named
 first_named name v more = (name, flags_data v) ∷ more
 
+supported_flat : (n : ℕ) → 2 ≤ n → (o : Option ℕ) → NamedFlat n (supported_members o)
+supported_flat n le None = tt
+supported_flat n le (Some modes) = (deeper 1 n _ (omega arith) (names_data_flat _ _), tt)
+
 members_flat : (nested : Table → List ℕ → Data) (n : ℕ) → 2 ≤ n →
     ((t : Table) (s : List ℕ) → IsFlat n (nested t s)) → (name : List ℕ) (f : Format)
     (v : value.Value) (payload : List ℕ) → NamedFlat n (format_members nested name f v payload)
@@ -459,6 +466,10 @@ members_flat nested n le all name (format.List el) v payload =
     (deeper 2 n _ le (elements_data_flat el payload), tt)
 members_flat nested n le all name (format.Nested f) v payload =
     (all (tables.Family f) payload, tt)
+members_flat nested n le all name format.Supported v payload = (
+  all (tables.Family family.CanCtrlModeExt) payload,
+  supported_flat n le (supported_modes None (attributes payload)),
+)
 members_flat nested n le all name f v payload =
     (deeper 2 n (format_data f v payload) le (format_flat f v payload), tt)
 

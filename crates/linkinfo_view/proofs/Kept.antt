@@ -75,6 +75,8 @@ use Rattle.linkinfo_view.specs.View.{
   row_before,
   row_unless,
   shown_in,
+  supported_members,
+  supported_modes,
 }
 use Rattle.linkinfo_view.specs.Words.{FlagRow, flag_at}
 use Rattle.linkinfo_view.specs.declared.format.Flags.{Flags}
@@ -291,6 +293,10 @@ group_thins : (b : Bool) (name other : Text) (d : Data) →
 group_thins true name other d = one_taken name d (other ∷ [])
 group_thins false name other d = inl (one_taken other d [])
 
+supported_thins : (o : Option ℕ) → Thins (supported_members o) (codes "ctrlmode_supported" ∷ [])
+supported_thins None = inl refl
+supported_thins (Some n) = one_taken _ _ []
+
 format_thins : (nested : Table → List ℕ → Data) (name : Text) (f : Format) (v : value.Value)
     (payload : List ℕ) → Thins (format_members nested name f v payload) (names_of name f)
 format_thins nested name (format.Mask flags) v payload = two_taken _ _ _ _
@@ -304,6 +310,9 @@ format_thins nested name (format.Options flags) v payload =
 format_thins nested name (format.Names flags) v payload = two_taken _ _ _ _
 format_thins nested name (format.SecondNames flags) v payload = two_taken _ _ _ _
 format_thins nested name format.LacpState v payload = two_taken _ _ _ _
+format_thins nested name format.Supported v payload =
+    taken _ _ _ (codes "ctrlmode_supported" ∷ [])
+    (supported_thins (supported_modes None (attributes payload)))
 format_thins nested name f v payload = one_taken _ _ []
 
 rejected : (f : Format) (name : Text) (d : Data) → Thins ((name, d) ∷ []) (names_of name f)
@@ -316,6 +325,7 @@ rejected (format.Options flags) name d = one_taken name d (flag_names flags)
 rejected (format.Names flags) name d = one_taken name d (codes "flags_mask" ∷ [])
 rejected (format.SecondNames flags) name d = one_taken name d (codes "ctrlmode_mask" ∷ [])
 rejected format.LacpState name d = one_taken name d ((name ++ codes "_str") ∷ [])
+rejected format.Supported name d = one_taken name d (codes "ctrlmode_supported" ∷ [])
 rejected f name d = one_taken name d []
 
 meant_thins : (nested : Table → List ℕ → Data) (row : Line) (payload : List ℕ)

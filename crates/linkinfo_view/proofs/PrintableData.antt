@@ -149,6 +149,8 @@ use Rattle.linkinfo_view.specs.View.{
   row_before,
   row_unless,
   shown_in,
+  supported_members,
+  supported_modes,
 }
 use Rattle.linkinfo_view.specs.Words.{
   FlagRow,
@@ -725,6 +727,11 @@ str_passes name h =
 abbrev NestedPrintable : (Table → List ℕ → Data) → Type 0
 NestedPrintable nested = (t : Table) (s : List ℕ) → IsBytes s → IsPrintable (nested t s)
 
+supported_printable : (o : Option ℕ) → NamedPrintable (supported_members o)
+supported_printable None = tt
+supported_printable (Some n) =
+    ((known_passes (codes "ctrlmode_supported") refl, names_data_printable flags.Can n), tt)
+
 members_printable : (nested : Table → List ℕ → Data) → NestedPrintable nested → (name : List ℕ)
     (f : Format) (v : value.Value) (payload : List ℕ) → Passes name → IsBytes payload → Held v →
     NamedPrintable (format_members nested name f v payload)
@@ -788,6 +795,10 @@ members_printable nested all name (format.List el) v payload p h g =
     ((p, elements_data_printable el payload h), tt)
 members_printable nested all name (format.Nested f) v payload p h g =
     ((p, all (table.Family f) payload h), tt)
+members_printable nested all name format.Supported v payload p h g = (
+  (p, all (table.Family family.CanCtrlModeExt) payload h),
+  supported_printable (supported_modes None (attributes payload)),
+)
 members_printable nested all name f v payload p h g =
     ((p, format_printable f v payload h g), tt)
 

@@ -31,6 +31,7 @@ use Rattle.linkinfo_view.specs.Laws.{
   member_names,
   shown_format,
   shown_shape,
+  shows,
   view_format,
   view_shape,
 }
@@ -105,15 +106,37 @@ is_wanted : (wanted : Option Format) (given : Option Format) (form : Format) →
 is_wanted None given form h e = absurd (cc)
 is_wanted (Some wanted) given form h e = h ∙ e
 
--- a table agrees with a family if shapes and formats are equal
+-- whether a format shows a shape that has none of its own
+abbrev shows_or : Option Format → Option Format → Shape → Bool
+shows_or (Some wanted) given sh = true
+shows_or None None sh = true
+shows_or None (Some form) sh = shows form sh
+
+abbrev shows_in : Table → Family → ℕ → Shape → Bool
+shows_in t f number sh = shows_or (view_format f number sh) (shown_format t number) sh
+
+abbrev always : ℕ → Shape → Bool
+always number sh = true
+
+shows_given : (wanted given : Option Format) (form : Format) (sh : Shape) →
+    shows_or wanted given sh ≡ true → wanted ≡ None → given ≡ Some form → IsTrue (shows form sh)
+shows_given (Some wanted) given form sh h none some = absurd (cc)
+shows_given None None form sh h none some = absurd (cc)
+shows_given None (Some given) form sh h none some = cc
+
+-- a table agrees with a family if shapes and formats are equal, and the other formats show theirs
 pub all_agree : (t : Table) (f : Family) →
     AreEqual (shape_in t) (wanted_shape f) (typed_rows_of f) →
-    AreEqual (format_in t f) (view_format f) (typed_rows_of f) → Agrees t f
-all_agree t f shapes formats = record {
+    AreEqual (format_in t f) (view_format f) (typed_rows_of f) →
+    AreEqual (shows_in t f) always (typed_rows_of f) → Agrees t f
+all_agree t f shapes formats others = record {
   shapes = λ number sh h.
       equal_at (shape_in t) (wanted_shape f) (typed_rows_of f) number sh shapes h;
   formats = λ number sh form h e. is_wanted (view_format f number sh) (shown_format t number) form
       (equal_at (format_in t f) (view_format f) (typed_rows_of f) number sh formats h) e;
+  others = λ number sh form h none some.
+      shows_given (view_format f number sh) (shown_format t number) form sh
+      (equal_at (shows_in t f) always (typed_rows_of f) number sh others h) none some;
 }
 
 -- the names of the members of an object are distinct

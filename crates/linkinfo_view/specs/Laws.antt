@@ -10,6 +10,7 @@ use Rattle.std.specs.Prelude.{
   false,
   if◌then◌else◌,
   not,
+  IsTrue,
   List,
   [],
   ◌∷◌,
@@ -88,12 +89,13 @@ view_shape f number sh = sh
 
 -- The format of a row of the view, where the library's shape is such a boolean, a record, an array
 -- or a list. A list of another family is shown by the table of that family, but for maps of
--- priorities.
+-- priorities, and for the modes of CAN devices, whose names are also in the list around it.
 abbrev pub view_format : Family → ℕ → Shape → Option Format
 view_format f number shape.Truth =
     if is_shown_as_number f number then Some format.Plain else None
 view_format f number (shape.Nested family.VlanQosMapping) =
     Some (format.List elements.PriorityPairs)
+view_format f number (shape.Nested family.CanCtrlModeExt) = Some format.Supported
 view_format f number (shape.Nested inner) = Some (format.Nested inner)
 view_format f number shape.BridgeId = Some format.BridgeId
 view_format f number shape.LePair16 = Some format.ErrorCounters
@@ -106,13 +108,69 @@ view_format f number shape.V6List = Some (format.List elements.Addresses)
 view_format f number shape.SelfList = Some (format.List elements.HardwareAddresses)
 view_format f number sh = None
 
+-- the shapes of one number, of one number of two bytes, and of one number or boolean
+abbrev pub is_of_number : Shape → Bool
+is_of_number shape.U8 = true
+is_of_number shape.Le16 = true
+is_of_number shape.Le32 = true
+is_of_number shape.Le64 = true
+is_of_number shape.Be16 = true
+is_of_number shape.Be32 = true
+is_of_number shape.Be64 = true
+is_of_number _ = false
+
+abbrev pub is_of_two_bytes : Shape → Bool
+is_of_two_bytes shape.Le16 = true
+is_of_two_bytes shape.Be16 = true
+is_of_two_bytes _ = false
+
+abbrev pub is_of_switch : Shape → Bool
+is_of_switch shape.Truth = true
+is_of_switch shape.TruthOne = true
+is_of_switch sh = is_of_number sh
+
+-- The shapes that a format shows, where the shape does not have a format of its own: those whose
+-- value or whose bytes it reads. `Plain` shows a value by its kind. The formats of records, arrays
+-- and lists show none of these shapes.
+abbrev pub shows : Format → Shape → Bool
+shows format.Plain sh = true
+shows format.Present shape.Mark = true
+shows format.Switch sh = is_of_switch sh
+shows format.Hex sh = is_of_number sh
+shows format.HexOrZero sh = is_of_number sh
+shows (format.Mask flags) sh = is_of_number sh
+shows format.KeyHex sh = is_of_two_bytes sh
+shows format.FourDigits sh = is_of_two_bytes sh
+shows format.Octets shape.Le64 = true
+shows format.HardwareAddress shape.Raw = true
+shows format.Quad shape.Be32 = true
+shows (format.Word words) shape.Scrub = true
+shows (format.Word words) sh = is_of_number sh
+shows format.Address shape.V4 = true
+shows format.Address shape.V6 = true
+shows format.Address shape.Ip = true
+shows format.Group shape.V4 = true
+shows format.Group6 shape.V6 = true
+shows format.FlowInfo shape.Be32 = true
+shows (format.Bits flags) sh = is_of_number sh
+shows (format.Options flags) shape.FlagPair = true
+shows (format.Names flags) shape.FlagPair = true
+shows (format.SecondNames flags) shape.FlagPair = true
+shows (format.FlagNames flags) sh = is_of_number sh
+shows format.LacpState shape.U8 = true
+shows format.LacpState shape.Le16 = true
+shows _ _ = false
+
 -- Each row of the family in the typed layer has a row in the table: with its shape as the view has
--- it, and with the format that the view has for it, if it has one.
+-- it, and with the format that the view has for it, if it has one, and else with a format that
+-- shows the shape.
 pub record Agrees (t : Table) (f : Family) : Type 0 where
   pub shapes : (number : ℕ) (sh : Shape) → typed_shape_of f number ≡ Some sh →
       shown_shape t number ≡ Some (view_shape f number sh)
   pub formats : (number : ℕ) (sh : Shape) (form : Format) → typed_shape_of f number ≡ Some sh →
       view_format f number sh ≡ Some form → shown_format t number ≡ Some form
+  pub others : (number : ℕ) (sh : Shape) (form : Format) → typed_shape_of f number ≡ Some sh →
+      view_format f number sh ≡ None → shown_format t number ≡ Some form → IsTrue (shows form sh)
 
 -- The one row of the family has the type and the shape of the elements of a list.
 abbrev pub IsRowOfElements : Family → Elements → Type 0
@@ -139,6 +197,7 @@ names_of name (format.Options flags) = name ∷ flag_names flags
 names_of name (format.Names flags) = name ∷ codes "flags_mask" ∷ []
 names_of name (format.SecondNames flags) = name ∷ codes "ctrlmode_mask" ∷ []
 names_of name format.LacpState = name ∷ (name ++ codes "_str") ∷ []
+names_of name format.Supported = name ∷ codes "ctrlmode_supported" ∷ []
 names_of name format = name ∷ []
 
 -- the names of all members of an object

@@ -21,6 +21,7 @@ use Rattle.std.specs.Prelude.{
 }
 use Rattle.nla_frame.specs.Attribute.{Attribute, masked}
 use Rattle.nla_frame.specs.declared.error.Cause.{Cause}
+use Rattle.nla_frame.specs.declared.error.Family.TheVariants as families
 use Rattle.linkinfo_shapes.specs.Data as value
 use Rattle.linkinfo_shapes.specs.Data.{Value}
 use Rattle.linkinfo_shapes.specs.declared.shape.Shape.{Shape}
@@ -146,6 +147,31 @@ state_members name n = (name, number_data n)
     ∷ (name ++ codes "_str", names_data flags.LacpState (n % 256))
     ∷ []
 
+-- the modes in an attribute, if it has four bytes
+abbrev pub modes_in : Result Value Cause → Option ℕ
+modes_in (Ok value) = Some (first_of value)
+modes_in (Err e) = None
+
+-- the modes that a device has: those of the last attribute of type 1, or else those of before
+abbrev pub modes_after : Option ℕ → Attribute → Option ℕ
+modes_after before a =
+    if masked a.kind == 1 then modes_in (meant shape.Le32 a.value) else before
+
+abbrev pub supported_modes : Option ℕ → List Attribute → Option ℕ
+supported_modes before [] = before
+supported_modes before (a ∷ more) = supported_modes (modes_after before a) more
+
+-- their names
+abbrev pub supported_members : Option ℕ → List Named
+supported_members None = []
+supported_members (Some n) = (codes "ctrlmode_supported", names_data flags.Can n) ∷ []
+
+-- the list of the modes that a device has, and their names
+abbrev pub modes_members : (Table → List ℕ → Data) → List ℕ → List ℕ → List Named
+modes_members nested name payload =
+    (name, nested (tables.Family families.CanCtrlModeExt) payload)
+    ∷ supported_members (supported_modes None (attributes payload))
+
 -- the members of a value by its format, where `nested` shows a nested list by a table
 abbrev pub format_members : (Table → List ℕ → Data) → List ℕ → Format → Value → List ℕ →
     List Named
@@ -170,6 +196,7 @@ format_members nested name format.LacpState value payload = state_members name (
 format_members nested name (format.List el) value payload = (name, elements_data el payload) ∷ []
 format_members nested name (format.Nested family) value payload =
     (name, nested (tables.Family family) payload) ∷ []
+format_members nested name format.Supported value payload = modes_members nested name payload
 format_members nested name format value payload = (name, format_data format value payload) ∷ []
 
 -- the members of a payload by a row; a payload that the row's shape rejects is hex

@@ -480,7 +480,7 @@ pub(crate) const CAN: &[Entry] = rows! {
     (14, "data_bitrate_const", Raw, Le32s),
     (15, "bitrate_max", Le32, Plain),
     (16, "tdc", Raw, Nested(Family::CanTdc)),
-    (17, "ctrlmode_ext", Raw, Nested(Family::CanCtrlModeExt)),
+    (17, "ctrlmode_ext", Raw, Supported),
     (18, "xl_data_bittiming", Raw, BitTiming),
     (19, "xl_data_bittiming_const", Raw, BitTimingConst),
     (20, "xl_data_bitrate_const", Raw, Le32s),

@@ -27,10 +27,11 @@ ghost use Rattle.linkinfo_view.specs.declared.format.Table.TheVariants as table;
 /// The shape is the same, but `U8` for the booleans of bridges and for two of their ports, whose
 /// byte is shown as a number, and `Raw` for records, arrays and lists. Each of these, and the list
 /// of addresses of macvlan, has the one format of its layout; a list of another family is shown by
-/// the table of that family. The family of maps of priorities alone has no table: its one row has
-/// the type and the shape of the elements of `Elements::PriorityPairs`. The elements of
-/// `Elements::HardwareAddresses` have those of a row of macvlan. Of a row with another shape the
-/// law leaves the format open.
+/// the table of that family. Every other row has a format that shows its shape (`shows`): the
+/// format reads no other layout. Which of these formats it is, and by which words or flags it names
+/// numbers, the law leaves open. The family of maps of priorities alone has no table: its one row
+/// has the type and the shape of the elements of `Elements::PriorityPairs`. The elements of
+/// `Elements::HardwareAddresses` have those of a row of macvlan.
 pub fn same_shapes()
     ensures families { (f : Family) → f ≢ family.VlanQosMapping → Agrees (table.Family f) f }
     ensures sit { Agrees table.Sit family.IpTunnel }

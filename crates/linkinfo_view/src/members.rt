@@ -14,18 +14,21 @@ ghost use Rattle.std.specs.Prelude.{
   string_bytes,
   map as list_map,
   if◌then◌else◌,
+  None,
 };
 ghost use Rattle.std.specs.Option.{option_copied};
 ghost use Rattle.linkinfo_shapes.specs.Data.{value_of};
+ghost use Rattle.linkinfo_shapes.specs.declared.shape.Shape.TheVariants as shape;
 ghost use Rattle.serde_json.specs.Data.{string};
 ghost use Rattle.serde_json.specs.View.{members_view, view};
-ghost use Rattle.linkinfo_view.specs.Attributes.{rest_of};
+ghost use Rattle.linkinfo_view.specs.Attributes.{attributes, rest_of};
 ghost use Rattle.linkinfo_view.specs.Lines.{line_of};
 ghost use Rattle.linkinfo_view.specs.Values.{
   bits_from,
   is_multicast as has_multicast,
   is_set as has_flag,
   listed,
+  meant,
   listed_text,
   names_data,
   options_from,
@@ -46,12 +49,17 @@ ghost use Rattle.linkinfo_view.specs.View.{
   group_members,
   mask_members,
   members_of,
+  modes_after as modes_with,
+  modes_in as modes_of_meant,
+  modes_members,
   names_members,
   other_data,
   put_all,
   rest_data,
   rest_member,
   state_members,
+  supported_members,
+  supported_modes as modes_of_device,
   with_label,
 };
 ghost use Rattle.linkinfo_view.specs.Words.{flag_at as flag_of_place, flag_seen};
@@ -65,7 +73,7 @@ use crate::value::{
 };
 use crate::words::{Flag, flag_at};
 use linkinfo_shapes::{Datum, Shape};
-use nla_frame::NlaBuffer;
+use nla_frame::{Family, NlaBuffer};
 use serde_json::{Map, Value, push, put};
 use std::alloc::{AllocError, Global};
 
@@ -472,6 +480,74 @@ fn put_group(
     put(map, alloc, name, plain_json(alloc, datum)?)
 }
 
+/// The modes in the payload of `IFLA_CAN_CTRLMODE_SUPPORTED`, if it has four bytes.
+fn modes_in(payload: &[u8]) -> Option<u64>
+    ensures { result ≡ modes_of_meant (meant shape.Le32 payload.now) }
+{
+    match datum_of(Shape::Le32, payload) {
+        Ok(datum) => Some(first_of(&datum)),
+        Err(_) => None,
+    }
+}
+
+/// The modes in an attribute, or those before it if it has another type.
+fn modes_after(before: Option<u64>, attribute: &NlaBuffer<'_>) -> Option<u64>
+    ensures { result ≡ modes_with before attribute.now }
+{
+    if attribute.kind() == 1 {
+        modes_in(attribute.value())
+    } else {
+        before
+    }
+}
+
+/// The modes that a device has (`IFLA_CAN_CTRLMODE_EXT`), if the last attribute of type 1 has four
+/// bytes.
+fn supported_modes(bytes: &[u8]) -> Option<u64>
+    ensures { result ≡ modes_of_device None (attributes bytes.now) }
+{
+    let mut modes = None;
+    let mut rest = bytes;
+    while let Some((attribute, next)) = first_attribute(rest) {
+        modes = modes_after(modes, &attribute);
+        rest = next;
+    }
+    modes
+}
+
+/// Puts the names of the modes that a device has, if they are known.
+fn put_modes(
+    alloc: Global,
+    modes: Option<u64>,
+    map: &mut Map<String, Value>,
+) -> Result<(), AllocError>
+    ensures { OnOk result (members_view map.new.entries
+        ≡ put_all (supported_members modes) (members_view map.old.entries)) }
+{
+    match modes {
+        Some(modes) => {
+            let names = names_json(alloc, Flags::Can, modes)?;
+            put(map, alloc, "ctrlmode_supported", names)
+        }
+        None => Ok(()),
+    }
+}
+
+/// Puts the list of the modes that a device has, and their names.
+fn put_supported<N: Nesting>(
+    alloc: Global,
+    name: &str,
+    payload: &[u8],
+    map: &mut Map<String, Value>,
+) -> Result<(), AllocError>
+    ensures { OnOk result (members_view map.new.entries
+        ≡ put_all (modes_members N.shown name.now payload.now) (members_view map.old.entries)) }
+{
+    let table = Table::Family(Family::CanCtrlModeExt);
+    put(map, alloc, name, N::nested_json(alloc, table, payload)?)?;
+    put_modes(alloc, supported_modes(payload), map)
+}
+
 /// Puts the members of an attribute by the format of its row.
 fn put_formatted<N: Nesting>(
     alloc: Global,
@@ -512,6 +588,7 @@ fn put_formatted<N: Nesting>(
         }
         Format::LacpState => put_state(alloc, name, first_of(datum), map),
         Format::List(elements) => put(map, alloc, name, elements_json(alloc, elements, payload)?),
+        Format::Supported => put_supported::<N>(alloc, name, payload, map),
         Format::Nested(family) => {
             put(
                 map,

@@ -54,8 +54,9 @@ class Package(unittest.TestCase):
         with mock.patch.object(layout, "read_crate", remembered):
             cls.files = layout.package_files(REPOSITORY)
 
-    def test_every_test_is_translated(self):
-        files = REPOSITORY.glob("crates/*/src/**/*.rt")
+    def test_every_test_of_its_crates_is_translated(self):
+        files = [file for file in REPOSITORY.glob("crates/*/src/**/*.rt")
+                 if "linkinfo_build" not in file.parts]
         wanted = sum(file.read_text(encoding="utf-8").count("#[test]") for file in files)
         texts = [text for name, text in self.files.items() if name.startswith("tests/")]
         self.assertEqual(sum(text.count("#[test]") for text in texts), wanted)

@@ -77,8 +77,25 @@ const LISTS: &[(Table, &[u8], &str)] = &[
             0x0c, 0x00, 0x11, 0x00, 0x08, 0x00, 0x01, 0x00, 0x81, 0x10, 0x01, 0x00,
         ],
         "{\"berr_counter\":\"010002\",\"bitrate_const\":\"0100000002\",\"ctrlmode_ext\":{\
-         \"supported\":[\"LOOPBACK\",\"FD-NON-ISO\",\"XL\",\"0x10000\"]},\"termination_co\
-         nst\":\"010002\"}",
+         \"supported\":[\"LOOPBACK\",\"FD-NON-ISO\",\"XL\",\"0x10000\"]},\"ctrlmode_supp\
+         orted\":[\"LOOPBACK\",\"FD-NON-ISO\",\"XL\",\"0x10000\"],\"termination_const\":\
+         \"010002\"}",
+    ),
+    (
+        Table::Family(Family::Can),
+        &[
+            0x14, 0x00, 0x11, 0x00, 0x08, 0x00, 0x01, 0x00, 0x20, 0x00, 0x00, 0x00, 0x08, 0x00,
+            0x01, 0x00, 0x01, 0x00, 0x00, 0x00,
+        ],
+        "{\"ctrlmode_ext\":{\"others\":[{\"hex\":\"20000000\",\"name\":\"supported\",\"t\
+         ype\":1}],\"supported\":[\"LOOPBACK\"]},\"ctrlmode_supported\":[\"LOOPBACK\"]}",
+    ),
+    (
+        Table::Family(Family::Can),
+        &[
+            0x0c, 0x00, 0x11, 0x00, 0x05, 0x00, 0x01, 0x00, 0x01, 0x00, 0x00, 0x00,
+        ],
+        "{\"ctrlmode_ext\":{\"supported\":\"01\"}}",
     ),
     (
         Table::Family(Family::BondPort),

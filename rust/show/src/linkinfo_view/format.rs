@@ -139,6 +139,10 @@ pub enum Format {
     List(Elements),
     /// A nested list of attributes with rows of their own.
     Nested(Family),
+    /// A nested list of the modes that a device has, with rows of their own, and as the member
+    /// `ctrlmode_supported` the names of the modes in its last attribute of type 1, if that has
+    /// four bytes (`IFLA_CAN_CTRLMODE_EXT`, `IFLA_CAN_CTRLMODE_SUPPORTED`).
+    Supported,
 }
 
 /// The attribute whose numbers have names.

@@ -15,7 +15,7 @@ use crate::linkinfo_view::value::{
     second_of,
 };
 use crate::linkinfo_view::words::{Flag, flag_at};
-use linkinfo::layers::nla_frame::NlaBuffer;
+use linkinfo::layers::nla_frame::{Family, NlaBuffer};
 use linkinfo::layers::shapes::{Datum, Shape};
 
 /// The most flags of one number that have a name.
@@ -300,6 +300,57 @@ fn put_group(
     put(map, name, plain_json(datum)?)
 }
 
+/// The modes in the payload of `IFLA_CAN_CTRLMODE_SUPPORTED`, if it has four bytes.
+fn modes_in(payload: &[u8]) -> Option<u64> {
+    match datum_of(Shape::Le32, payload) {
+        Ok(datum) => Some(first_of(&datum)),
+        Err(_) => None,
+    }
+}
+
+/// The modes in an attribute, or those before it if it has another type.
+fn modes_after(before: Option<u64>, attribute: &NlaBuffer<'_>) -> Option<u64> {
+    if attribute.kind() == 1 {
+        modes_in(attribute.value())
+    } else {
+        before
+    }
+}
+
+/// The modes that a device has (`IFLA_CAN_CTRLMODE_EXT`), if the last attribute of type 1 has four
+/// bytes.
+fn supported_modes(bytes: &[u8]) -> Option<u64> {
+    let mut modes = None;
+    let mut rest = bytes;
+    while let Some((attribute, next)) = first_attribute(rest) {
+        modes = modes_after(modes, &attribute);
+        rest = next;
+    }
+    modes
+}
+
+/// Puts the names of the modes that a device has, if they are known.
+fn put_modes(modes: Option<u64>, map: &mut Map<String, Value>) -> Result<(), AllocError> {
+    match modes {
+        Some(modes) => {
+            let names = names_json(Flags::Can, modes)?;
+            put(map, "ctrlmode_supported", names)
+        }
+        None => Ok(()),
+    }
+}
+
+/// Puts the list of the modes that a device has, and their names.
+fn put_supported<N: Nesting>(
+    name: &str,
+    payload: &[u8],
+    map: &mut Map<String, Value>,
+) -> Result<(), AllocError> {
+    let table = Table::Family(Family::CanCtrlModeExt);
+    put(map, name, N::nested_json(table, payload)?)?;
+    put_modes(supported_modes(payload), map)
+}
+
 /// Puts the members of an attribute by the format of its row.
 fn put_formatted<N: Nesting>(
     row: &Row,
@@ -332,6 +383,7 @@ fn put_formatted<N: Nesting>(
         Format::FlagNames(flags) => put(map, name, names_json(flags, first_of(datum))?),
         Format::LacpState => put_state(name, first_of(datum), map),
         Format::List(elements) => put(map, name, elements_json(elements, payload)?),
+        Format::Supported => put_supported::<N>(name, payload, map),
         Format::Nested(family) => put(map, name, N::nested_json(Table::Family(family), payload)?),
         format => put(map, name, format_json(format, datum, payload)?),
     }

@@ -7,13 +7,13 @@ use Rattle.linkinfo_view.proofs.laws.same_shapes.Goals as goal
 -- by computing, for each family
 pub returns-clause-families : goal.returns-clause-families
 returns-clause-families c family.VlanQosMapping other = absurd (other refl)
-returns-clause-families c _ other = all_agree _ _ refl refl
+returns-clause-families c _ other = all_agree _ _ refl refl refl
 
 pub returns-clause-sit : goal.returns-clause-sit
-returns-clause-sit c = all_agree table.Sit family.IpTunnel refl refl
+returns-clause-sit c = all_agree table.Sit family.IpTunnel refl refl refl
 
 pub returns-clause-ip6_tunnel : goal.returns-clause-ip6_tunnel
-returns-clause-ip6_tunnel c = all_agree table.Ip6Tunnel family.IpTunnel refl refl
+returns-clause-ip6_tunnel c = all_agree table.Ip6Tunnel family.IpTunnel refl refl refl
 
 pub returns-clause-priority_pairs : goal.returns-clause-priority_pairs
 returns-clause-priority_pairs c place = refl

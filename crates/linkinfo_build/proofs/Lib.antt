@@ -1,0 +1,5 @@
+pub mod Addresses
+pub mod Listing
+pub mod Payloads
+pub mod Reading
+pub mod Suited

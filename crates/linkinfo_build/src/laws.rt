@@ -1,0 +1,50 @@
+//! Laws of built lists, each the contract of a function that computes nothing.
+
+ghost use Rattle.std.specs.Prelude.{◌≡◌, ◌↔◌, ◌≤◌, ◌%◌, ℕ, List, Ok, length, map, true};
+ghost use Rattle.nla_frame.specs.Attribute.{Attribute, IsBytes, list_string};
+ghost use Rattle.nla_frame.specs.NlaItems.{nla_items};
+ghost use Rattle.nla_frame.specs.declared.error.Family.{Family};
+ghost use Rattle.linkinfo_shapes.specs.Data.{Suits, Value};
+ghost use Rattle.linkinfo_shapes.specs.declared.shape.Shape.{Shape};
+ghost use Rattle.linkinfo_build.specs.Build.{attributes_of, encoding};
+ghost use Rattle.linkinfo_build.specs.Bytes.{IsAddressString, is_address_list};
+ghost use Rattle.linkinfo_build.specs.Canonical.{IsCanonicalList};
+ghost use Rattle.linkinfo_build.specs.Reading.{entry_of, values_of};
+ghost use Rattle.linkinfo_build.specs.Suits.{is_suited};
+
+use crate::holding::held;
+use crate::value::BuildValue;
+
+/// What is built of an array: at most 65531 bytes, which frame exactly the attributes of the
+/// values, in order. Reading the values of these bytes returns the array that they were built from,
+/// the values of lists in lists included. The bytes are canonical: each attribute has the flag bits
+/// that its row is written with, a payload that is accepted and is what is written for its datum,
+/// and zeros as padding; so do those of lists in lists.
+pub fn built(values: &[BuildValue<'_>])
+    ensures bytes { (f : Family) (string : List ℕ) →
+        encoding f values.now ≡ Ok string → IsBytes string }
+    ensures short { (f : Family) (string : List ℕ) →
+        encoding f values.now ≡ Ok string → length string ≤ 65531 }
+    ensures framed { (f : Family) (attributes : List Attribute) →
+        attributes_of f values.now ≡ Ok attributes →
+        nla_items (list_string attributes) ≡ map (λ a. Ok a) attributes }
+    ensures read { (f : Family) (string : List ℕ) →
+        encoding f values.now ≡ Ok string → values_of f string ≡ map entry_of values.now }
+    ensures canonical { (f : Family) (string : List ℕ) →
+        encoding f values.now ≡ Ok string → IsCanonicalList f string }
+{
+    held(values);
+}
+
+/// Bytes that are taken as a list of addresses are the canonical one of such attributes, of the
+/// types 0, 1, 2 .. and without padding, where addresses have a multiple of four bytes.
+pub fn addresses(bytes: &[u8])
+    ensures { (width : ℕ) → width % 4 ≡ 0 → is_address_list width bytes.now ≡ true →
+        IsAddressString width bytes.now }
+{}
+
+/// The test of a datum is what the calls that write data ask for.
+pub fn suited()
+    ensures { (shape : Shape) (value : Value) →
+        (is_suited shape value ≡ true) ↔ Suits shape value }
+{}
