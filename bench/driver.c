@@ -27,6 +27,7 @@
 bool bench_check(const uint8_t *bytes, size_t len);
 bool bench_same(const uint8_t *a, size_t a_len, const uint8_t *b, size_t b_len);
 bool bench_unmet(const uint8_t *have, size_t have_len, const uint8_t *want, size_t want_len);
+size_t bench_all(const uint8_t *have, size_t have_len, const uint8_t *want, size_t want_len);
 bool bench_differ(const uint8_t *a, size_t a_len, const uint8_t *b, size_t b_len);
 bool bench_parse(const uint8_t *bytes, size_t len);
 size_t bench_emit(const uint8_t *bytes, size_t len, uint8_t *buffer, size_t room, uint32_t times);
@@ -39,9 +40,13 @@ typedef struct {
     bool accepted;
 } List;
 
-enum { CHECK, EQUAL, SAME, UNMET, MET, DIFFER, PARSE, EMIT, CANON, SCAN, OPERATIONS };
-static const char *NAMES[] = {"check",  "equal", "same", "unmet", "met",
-                              "differ", "parse", "emit", "canon", "scan"};
+enum {
+    CHECK, EQUAL, SAME, UNMET, MET, ALL, ALL_MET, LACKING, DIFFER, PARSE, EMIT, CANON, SCAN,
+    OPERATIONS
+};
+static const char *NAMES[] = {"check",   "equal",   "same",   "unmet", "met",  "all",
+                              "all-met", "lacking", "differ", "parse", "emit", "canon",
+                              "scan"};
 
 static volatile size_t sink;
 
@@ -63,6 +68,16 @@ static __attribute__((noinline)) bool scan(const uint8_t *p, size_t n, int depth
     return true;
 }
 
+// The offset of the last attribute of a list: what is not met last by no list at all.
+static size_t last_of(const List *l) {
+    size_t last = 0;
+    for (size_t at = 0, len; at < l->len; at += (len + 3) & ~(size_t)3) {
+        len = l->bytes[at] | l->bytes[at + 1] << 8;
+        last = at;
+    }
+    return last;
+}
+
 static void expect(const List *l, const char *what, size_t result, size_t wanted) {
     if (result == wanted) return;
     fprintf(stderr, "%s: %s returns %zu, not %zu\n", l->name, what, result, wanted);
@@ -80,6 +95,9 @@ static void judge(const List *l) {
            l->accepted && first >= 1 && first <= 5);
     expect(l, "unmet", bench_unmet(l->bytes, l->len, l->equal, l->len), l->accepted);
     expect(l, "met", bench_unmet(l->flagged, l->len, l->bytes, l->len), l->accepted);
+    expect(l, "all", bench_all(l->bytes, l->len, l->equal, l->len), l->accepted ? 1 : 2);
+    expect(l, "all-met", bench_all(l->flagged, l->len, l->bytes, l->len), l->accepted ? 1 : 2);
+    expect(l, "lacking", bench_all(l->bytes, 0, l->bytes, l->len), l->accepted ? last_of(l) : 2);
     expect(l, "differ", bench_differ(l->bytes, l->len, l->equivalent, l->len),
            l->accepted && first >= 1 && first <= 5);
     expect(l, "parse", bench_parse(l->bytes, l->len), l->accepted);
@@ -115,6 +133,16 @@ static void run(const List *l, int operation, uint32_t times) {
     case MET:
         for (uint32_t i = 0; i < times; i++)
             sink += bench_unmet(l->flagged, l->len, l->bytes, l->len);
+        break;
+    case ALL:
+        for (uint32_t i = 0; i < times; i++) sink += bench_all(l->bytes, l->len, l->equal, l->len);
+        break;
+    case ALL_MET:
+        for (uint32_t i = 0; i < times; i++)
+            sink += bench_all(l->flagged, l->len, l->bytes, l->len);
+        break;
+    case LACKING:
+        for (uint32_t i = 0; i < times; i++) sink += bench_all(l->bytes, 0, l->bytes, l->len);
         break;
     case DIFFER:
         for (uint32_t i = 0; i < times; i++)

@@ -39,6 +39,29 @@ pub unsafe extern "C" fn bench_unmet(
     matches!(linkinfo::first_unmet(have, want), Ok(None))
 }
 
+/// The offset of the last attribute of the second list that the first does not meet; 1 if it meets
+/// all of them, and 2 if a list is rejected.
+#[unsafe(no_mangle)]
+pub unsafe extern "C" fn bench_all(
+    have: *const u8,
+    have_len: usize,
+    want: *const u8,
+    want_len: usize,
+) -> usize {
+    let have = unsafe { from_raw_parts(have, have_len) };
+    let want = unsafe { from_raw_parts(want, want_len) };
+    match linkinfo::unmet(have, want) {
+        Ok(all) => {
+            let mut last = 1;
+            for unmet in all {
+                last = unmet.want;
+            }
+            last
+        }
+        Err(_) => 2,
+    }
+}
+
 /// Whether both lists are accepted and differ nowhere.
 #[unsafe(no_mangle)]
 pub unsafe extern "C" fn bench_differ(

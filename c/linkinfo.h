@@ -45,6 +45,7 @@
  *
  * Which comparison. linkinfo_first_unmet is for a link and a request: does the
  * link that the kernel returned have each attribute of the request?
+ * linkinfo_next_unmet returns all that it does not have, one after another.
  * linkinfo_same is for two requests, or for two canonical encodings: are they
  * equivalent? It is false for a request and the link that the kernel made by
  * it, since the kernel returns all defaults too.
@@ -489,8 +490,8 @@ struct linkinfo_unmet {
   size_t have;                 /* where is_present, the offset in the first list
                                   of the header of the last attribute of that
                                   type; else 0 */
-  bool met;                    /* whether each attribute is met; false with an
-                                  error */
+  bool met;                    /* whether each attribute is met, of those that
+                                  are asked for; false with an error */
   bool is_present;             /* whether there is an attribute of that type: of
                                   an attribute of the list, in the first list,
                                   whatever its kind; of one in data, in the last
@@ -557,6 +558,72 @@ linkinfo_first_unmet(const uint8_t *have, size_t have_length,
 LINKINFO_NODISCARD struct linkinfo_unmet
 linkinfo_first_unmet_opaque(const uint8_t *have, size_t have_length,
                             const uint8_t *want, size_t want_length);
+
+/*
+ * linkinfo_next_unmet - finds the next attribute of a request that a link does
+ * not have, from an offset on
+ * @have: the link, as the kernel returned it
+ * @have_length: its length in bytes
+ * @want: the request
+ * @want_length: its length in bytes
+ * @from: the offset in the request, in bytes, from which on its attributes are
+ * told; 0 for the first one
+ *
+ * The offset is the caller's, and no state is kept. The next one after an
+ * attribute at the offset want is that from want + 1 on. So each attribute that
+ * is not met is told once, in the order of the request:
+ *
+ *   struct linkinfo_unmet unmet =
+ *       linkinfo_next_unmet(have, have_length, want, want_length, 0);
+ *   for (; unmet.rejected == 0 && !unmet.met;
+ *        unmet = linkinfo_next_unmet(have, have_length, want, want_length,
+ *                                    unmet.want + 1))
+ *     printf("type %u at offset %zu\n", (unsigned)unmet.type, unmet.want);
+ *
+ * What is met is said at linkinfo_first_unmet, which returns what this does
+ * with 0. An offset inside an attribute is accepted: that attribute is not
+ * told, and attributes that begin later in it are, if it is a list that is
+ * compared attribute by attribute. From the end of the request on none is left.
+ * Of several attributes of a type only the last one is told, as only that one
+ * counts; of mappings of priorities each one is.
+ *
+ * Return: the first attribute of the request, of those whose header is at the
+ * offset or after it, that is not met; that all are met, where none of them is
+ * left; or the error of a list, whatever the offset.
+ * Time: as linkinfo_first_unmet, each time, so a loop over all takes that time
+ * for each attribute that is not met. Attributes that end before the offset are
+ * not compared.
+ * Threads: MT-Safe.
+ */
+LINKINFO_NODISCARD struct linkinfo_unmet
+linkinfo_next_unmet(const uint8_t *have, size_t have_length,
+                    const uint8_t *want, size_t want_length, size_t from);
+
+/*
+ * linkinfo_next_unmet_opaque - finds the next attribute of a request that a
+ * link does not have, from an offset on, with bonds, bridges and their like
+ * opaque
+ * @have: the link, as the kernel returned it
+ * @have_length: its length in bytes
+ * @want: the request
+ * @want_length: its length in bytes
+ * @from: the offset in the request, in bytes, from which on its attributes are
+ * told; 0 for the first one
+ *
+ * As linkinfo_next_unmet, but attributes of bond, bridge, can, dsa, hsr, tun
+ * and vlan links, and of ports of bonds and bridges, are compared as bytes,
+ * whatever their flag bits.
+ *
+ * Return: the first attribute of the request, of those whose header is at the
+ * offset or after it, that is not met; that all are met, where none of them is
+ * left; or the error of a list, whatever the offset.
+ * Time: linear, as linkinfo_first_unmet_opaque, each time.
+ * Threads: MT-Safe.
+ */
+LINKINFO_NODISCARD struct linkinfo_unmet
+linkinfo_next_unmet_opaque(const uint8_t *have, size_t have_length,
+                           const uint8_t *want, size_t want_length,
+                           size_t from);
 
 /* The outcome of linkinfo_canon. */
 enum linkinfo_canon_status {

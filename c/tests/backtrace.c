@@ -41,6 +41,9 @@ CALLER static void same(const uint8_t *page) { sink += linkinfo_same(page, PAGE,
 CALLER static void unmet(const uint8_t *page) {
   sink += linkinfo_first_unmet(room, 0, page, PAGE).met;
 }
+CALLER static void next_unmet(const uint8_t *page) {
+  sink += linkinfo_next_unmet(room, 0, page, PAGE, 1).met;
+}
 CALLER static void difference(const uint8_t *page) {
   sink += linkinfo_first_difference(room, 0, page, PAGE).same;
 }
@@ -55,8 +58,9 @@ CALLER static void value(const uint8_t *page) {
 CALLER static void message(const uint8_t *page) { sink += linkinfo_next_link(page, PAGE, 0).next; }
 
 int main(void) {
-  static void (*const calls[])(const uint8_t *) = {check, check_inner, same, unmet, difference,
-                                                   canon, count,       list, value, message};
+  static void (*const calls[])(const uint8_t *) = {check, check_inner, same, unmet,
+                                                   next_unmet, difference, canon, count,
+                                                   list, value, message};
   uint8_t *page = mmap(NULL, PAGE, PROT_NONE, MAP_PRIVATE | MAP_ANONYMOUS, -1, 0);
   if (page == MAP_FAILED || signal(SIGSEGV, handler) == SIG_ERR) return 1;
   for (volatile size_t i = 0; i < sizeof calls / sizeof *calls; i++) {

@@ -168,6 +168,10 @@ static void no_bytes(void) {
   CHECK(is_none(difference.error) && difference.same && no_pair(&difference));
   unmet = linkinfo_first_unmet_opaque(NULL, 0, NULL, 0);
   CHECK(is_none(unmet.error) && unmet.met && no_attribute(&unmet));
+  unmet = linkinfo_next_unmet(NULL, 0, NULL, 0, 1);
+  CHECK(is_none(unmet.error) && unmet.met && no_attribute(&unmet) && unmet.rejected == 0);
+  unmet = linkinfo_next_unmet_opaque(NULL, 0, NULL, 0, SIZE_MAX);
+  CHECK(is_none(unmet.error) && unmet.met && no_attribute(&unmet) && unmet.rejected == 0);
   canon = linkinfo_canon_opaque(NULL, 0, NULL, 0);
   CHECK(is_none(canon.error) && canon.status == LINKINFO_CANON_WRITTEN && canon.length == 0);
   struct linkinfo_link link = linkinfo_next_link(NULL, 0, 0);
@@ -510,21 +514,31 @@ static void differs(const uint8_t *a, const uint8_t *b, size_t length) {
             .same);
 }
 
-/* By the empty list, the first attribute whose type does not occur later is not met. */
+/* By the empty list, each attribute whose type does not occur later is not met, in their order. */
 static void lacks_all(const uint8_t *bytes, size_t length, struct linkinfo_error error) {
-  struct linkinfo_unmet unmet = linkinfo_first_unmet(NULL, 0, bytes, length);
+  struct linkinfo_unmet unmet = linkinfo_first_unmet(NULL, 0, bytes, length),
+                        opaque = linkinfo_next_unmet_opaque(NULL, 0, bytes, length, 0);
   CHECK(equal(unmet.error, error) && unmet.rejected == (is_none(error) ? 0u : 2u));
-  CHECK(unmet.met == (length == 0) && !unmet.is_present && unmet.have == 0);
-  if (!is_none(error) || length == 0) {
+  CHECK(unmet.met == (is_none(error) && length == 0) && !unmet.is_present && unmet.have == 0);
+  CHECK(!is_none(error) || (opaque.want == unmet.want && opaque.met == unmet.met));
+  if (!is_none(error)) {
     CHECK(no_attribute(&unmet));
+    unmet = linkinfo_next_unmet(NULL, 0, bytes, length, length);
+    CHECK(equal(unmet.error, error) && unmet.rejected == 2 && no_attribute(&unmet));
     return;
   }
   static struct linkinfo_item items[MOST_BYTES / 4 + 1];
-  size_t count = linkinfo_items(bytes, length, items, length / 4).count, first = 0;
-  for (size_t later = 1; later < count; later++)
-    if ((items[later].raw_type & 0x3fff) == (items[first].raw_type & 0x3fff)) later = ++first;
-  CHECK(unmet.family == LINKINFO_FAMILY_LINKINFO && unmet.want == items[first].place);
-  CHECK(unmet.type == (items[first].raw_type & 0x3fff));
+  size_t count = linkinfo_items(bytes, length, items, length / 4).count;
+  for (size_t at = 0; at < count; at++) {
+    uint16_t type = items[at].raw_type & 0x3fff;
+    size_t later = at + 1;
+    while (later < count && (items[later].raw_type & 0x3fff) != type) later++;
+    if (later < count) continue;
+    CHECK(unmet.family == LINKINFO_FAMILY_LINKINFO && unmet.want == items[at].place);
+    CHECK(unmet.type == type && unmet.rejected == 0 && !unmet.met && !unmet.is_present);
+    unmet = linkinfo_next_unmet(NULL, 0, bytes, length, unmet.want + 1);
+  }
+  CHECK(unmet.met && no_attribute(&unmet) && is_none(unmet.error));
 }
 
 static void of_string(const uint8_t *bytes, size_t length) {

@@ -13,6 +13,8 @@ int main(void) {
   linkinfo_first_difference_opaque(NULL, 0, NULL, 0);
   linkinfo_first_unmet(NULL, 0, NULL, 0);
   linkinfo_first_unmet_opaque(NULL, 0, NULL, 0);
+  linkinfo_next_unmet(NULL, 0, NULL, 0, 0);
+  linkinfo_next_unmet_opaque(NULL, 0, NULL, 0, 0);
   linkinfo_canon(NULL, 0, NULL, 0);
   linkinfo_canon_opaque(NULL, 0, NULL, 0);
   linkinfo_count(NULL, 0);

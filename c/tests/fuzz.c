@@ -116,6 +116,12 @@ static struct linkinfo_error one(const uint8_t *bytes, size_t length) {
   return error;
 }
 
+static bool equal_unmet(const struct linkinfo_unmet *a, const struct linkinfo_unmet *b) {
+  return memcmp(&a->error, &b->error, sizeof a->error) == 0 && a->rejected == b->rejected &&
+         a->family == b->family && a->type == b->type && a->want == b->want &&
+         a->have == b->have && a->met == b->met && a->is_present == b->is_present;
+}
+
 /* With bonds, bridges and their like opaque: what is accepted without is accepted, its canonical
  * encoding is that of the one that is written, and what is equivalent stays so. */
 static void opaque(const uint8_t *a, size_t a_length, const uint8_t *b, size_t b_length,
@@ -131,7 +137,13 @@ static void opaque(const uint8_t *a, size_t a_length, const uint8_t *b, size_t b
   struct linkinfo_difference differ = linkinfo_first_difference_opaque(a, a_length, b, b_length);
   struct linkinfo_unmet unmet = linkinfo_first_unmet_opaque(a, a_length, b, b_length);
   CHECK(verbatim.rejected == differ.rejected && verbatim.same == differ.same);
+  struct linkinfo_unmet next = linkinfo_next_unmet_opaque(a, a_length, b, b_length, 0);
   CHECK(verbatim.rejected == unmet.rejected && (!verbatim.same || unmet.met));
+  CHECK(equal_unmet(&next, &unmet));
+  for (; next.rejected == 0 && !next.met; unmet = next) {
+    next = linkinfo_next_unmet_opaque(a, a_length, b, b_length, unmet.want + 1);
+    CHECK(next.rejected == 0 && (next.met || next.want > unmet.want));
+  }
   CHECK(x.cause != 0 || y.cause != 0 || (verbatim.rejected == 0 && (!verbatim.same || same)));
   static uint8_t written[2 * ROOM], again[2 * ROOM], once[2 * ROOM];
   struct linkinfo_canon_result canon =
@@ -191,6 +203,29 @@ static void messages(const uint8_t *bytes, size_t length) {
   }
 }
 
+/* The attributes of a request that are not met, one after another: in order, each from each offset
+ * after the one before it. */
+static void unmets(const uint8_t *a, size_t a_length, const uint8_t *b, size_t b_length,
+                   struct linkinfo_unmet first) {
+  struct linkinfo_unmet unmet = linkinfo_next_unmet(a, a_length, b, b_length, 0);
+  CHECK(equal_unmet(&unmet, &first));
+  size_t from = 0;
+  for (; unmet.rejected == 0 && !unmet.met;
+       unmet = linkinfo_next_unmet(a, a_length, b, b_length, from)) {
+    CHECK(unmet.want >= from && unmet.want + 4 <= b_length && unmet.family != 0);
+    for (size_t step = 1; from < unmet.want; from += step, step *= 2) {
+      struct linkinfo_unmet between = linkinfo_next_unmet(a, a_length, b, b_length, from);
+      CHECK(equal_unmet(&between, &unmet));
+    }
+    stands_at(b, b_length, unmet.want, unmet.family, unmet.type);
+    if (unmet.is_present) stands_at(a, a_length, unmet.have, unmet.family, unmet.type);
+    from = unmet.want + 1;
+  }
+  CHECK(unmet.rejected == first.rejected);
+  unmet = linkinfo_next_unmet(a, a_length, b, b_length, b_length);
+  CHECK(unmet.rejected == first.rejected && unmet.met == (first.rejected == 0));
+}
+
 int LLVMFuzzerTestOneInput(const uint8_t *data, size_t size) {
   static uint8_t *first_end, *second_end;
   if (!first_end) {
@@ -231,6 +266,7 @@ int LLVMFuzzerTestOneInput(const uint8_t *data, size_t size) {
   CHECK(unmet.is_present ? unmet.have + 4 <= cut : unmet.have == 0);
   if (unmet.family != 0) stands_at(b, rest - cut, unmet.want, unmet.family, unmet.type);
   if (unmet.is_present) stands_at(a, cut, unmet.have, unmet.family, unmet.type);
+  unmets(a, cut, b, rest - cut, unmet);
   for (size_t offset = cut; offset < cut + 4; offset++)
     CHECK(!linkinfo_value_at(a, cut, offset).is_found);
   CHECK(linkinfo_first_unmet(a, cut, a, cut).met == (x.cause == 0) && (!same.same || unmet.met));

@@ -51,6 +51,17 @@ static void *first_unmet(void *wrong) {
   struct linkinfo_unmet deep = linkinfo_first_unmet(list, sizeof list, other, sizeof other);
   return itself.met && deep.rejected == 0 && !deep.met && deep.want == 16 ? NULL : wrong;
 }
+static void *next_unmet(void *wrong) {
+  uint8_t other[sizeof list];
+  memcpy(other, list, sizeof list);
+  header(other + sizeof list - 4, 4, 0);
+  struct linkinfo_unmet deep = linkinfo_next_unmet(list, sizeof list, other, sizeof other, 16);
+  struct linkinfo_unmet none = linkinfo_next_unmet(list, sizeof list, other, sizeof other, 17);
+  struct linkinfo_unmet opaque =
+      linkinfo_next_unmet_opaque(list, sizeof list, other, sizeof other, 16);
+  return !deep.met && deep.want == 16 && none.met && !opaque.met && opaque.want == 16 ? NULL
+                                                                                       : wrong;
+}
 static void *difference(void *wrong) {
   uint8_t other[sizeof list];
   memcpy(other, list, sizeof list);
@@ -184,6 +195,7 @@ int main(void) {
   } calls[] = {{"check", check},
                {"same", same},
                {"first_unmet", first_unmet},
+               {"next_unmet, _next_unmet_opaque", next_unmet},
                {"first_difference", difference},
                {"check_inner", inner},
                {"count", count},

@@ -72,6 +72,7 @@ static void *calls(void *unused) {
           linkinfo_check_inner(bytes, length - 1).place != placed.place ||
           !linkinfo_first_unmet_opaque(bytes, length, bytes, length).met ||
           !linkinfo_first_difference_opaque(bytes, length, bytes, length).same ||
+          !linkinfo_next_unmet_opaque(NULL, 0, bytes, length, length).met ||
           !linkinfo_same_opaque(bytes, length, bytes, length).same ||
           linkinfo_check_inner_opaque(bytes, length).error.cause != 0 ||
           linkinfo_canon_opaque(bytes, length, canonical, sizeof canonical).status !=
@@ -79,6 +80,8 @@ static void *calls(void *unused) {
           linkinfo_check(bytes, length).cause != 0 ||
           !linkinfo_same(bytes, length, bytes, length).same ||
           linkinfo_count(bytes, length).count < found.count || found.count == 0 ||
+          linkinfo_next_unmet(NULL, 0, bytes, length, items[found.count - 1].place).want !=
+              items[found.count - 1].place ||
           linkinfo_canon(bytes, length, canonical, sizeof canonical).status !=
               LINKINFO_CANON_WRITTEN ||
           linkinfo_kind_name(items[0].kind, text, sizeof text) != strlen(text) ||

@@ -5,7 +5,7 @@ use crate::layers::nla_frame::NlasIterator;
 use crate::layers::payloads::{Addresses, Numbers};
 use crate::{
     AllocError, Bytes, DataLayer, DecodeError, ErrorIn, InfoKind, InfoPortKind, LinkInfoOf,
-    LinkInfoWalk, Nlas, Text, ToVecError, VecLinkInfoOf,
+    LinkInfoWalk, Nlas, Text, ToVecError, UnmetAttributes, VecLinkInfoOf,
 };
 use alloc::string::String;
 use alloc::vec::Vec;
@@ -307,3 +307,6 @@ impl FusedIterator for LinkInfoWalk<'_> {}
 impl FusedIterator for LinkMessages<'_> {}
 
 impl FusedIterator for NlasIterator<'_> {}
+
+/// (Once none is left from an offset on, none is left later.)
+impl FusedIterator for UnmetAttributes<'_> {}

@@ -1,3 +1,4 @@
+pub mod AllUnmets
 pub mod AtOffsets
 pub mod Differences
 pub mod Elsewhere

@@ -1,5 +1,5 @@
 -- Data that is a list, and data that is none.
-use Rattle.std.specs.Prelude.{◌≡◌, ℕ, Bool, List, Option, None, Some, refl}
+use Rattle.std.specs.Prelude.{◌≡◌, ℕ, Bool, List, map, Option, None, Some, refl}
 use Rattle.std.specs.Option.{option_map}
 use Rattle.std.proofs.Common.{ap, sym, ◌∙◌}
 use Rattle.nla_frame.specs.declared.error.Family.{Family}
@@ -9,11 +9,12 @@ use Rattle.linkinfo_table.specs.Difference.{
   pair_difference,
   payload_difference,
 }
-use Rattle.linkinfo_table.specs.Unmet.{inner_unmet, item_unmet}
+use Rattle.linkinfo_table.specs.Unmet.{inner_unmet}
+use Rattle.linkinfo_table.specs.Unmets.{item_unmets}
 use Rattle.linkinfo_table.specs.declared.last.PlacedNla.{PlacedNla}
-use Rattle.linkinfo_data.specs.Lists.{difference_in, family_in, unmet_in}
+use Rattle.linkinfo_data.specs.Lists.{difference_in, family_in, unmets_in}
 use Rattle.linkinfo.specs.Placed.{error_in_payload}
-use Rattle.linkinfo.specs.Unmet.{contents_unmet}
+use Rattle.linkinfo.specs.Unmets.{contents_unmets}
 use Rattle.nla_frame.specs.declared.error.Family.TheVariants as family
 
 pub error_of_none : (c : Contents) (p : List ℕ) → family_in c ≡ None → error_in_payload c p ≡ 4
@@ -41,23 +42,21 @@ module _ (c : Contents) (p q : PlacedNla) where
       go (NoList place count) e = absurd cc
       go (ListOf l inside) e = refl
 
-  pub unmet_of_none : (met : Bool) → family_in c ≡ None →
-      contents_unmet c met p q ≡ item_unmet family.LinkInfo met p q
-  unmet_of_none met e = go c e
+  pub unmets_of_none : (met : Bool) → family_in c ≡ None →
+      contents_unmets c met p q ≡ item_unmets family.LinkInfo met p q
+  unmets_of_none met e = go c e
     where
       go : (c : Contents) → family_in c ≡ None →
-          contents_unmet c met p q ≡ item_unmet family.LinkInfo met p q
+          contents_unmets c met p q ≡ item_unmets family.LinkInfo met p q
       go (NoList place count) e = refl
       go (ListOf l inside) e = absurd cc
 
-  pub unmet_of_list : (found : Family) (met : Bool) → family_in c ≡ Some found →
-      contents_unmet c met p q
-      ≡ option_map (inner_unmet q p) (unmet_in c p.nla.value q.nla.value)
-  unmet_of_list found met e = go c e
+  pub unmets_of_list : (found : Family) (met : Bool) → family_in c ≡ Some found →
+      contents_unmets c met p q ≡ map (inner_unmet q p) (unmets_in c p.nla.value q.nla.value)
+  unmets_of_list found met e = go c e
     where
       go : (c : Contents) → family_in c ≡ Some found →
-          contents_unmet c met p q
-          ≡ option_map (inner_unmet q p) (unmet_in c p.nla.value q.nla.value)
+          contents_unmets c met p q ≡ map (inner_unmet q p) (unmets_in c p.nla.value q.nla.value)
       go (NoList place count) e = absurd cc
       go (ListOf l inside) e = refl
 

@@ -53,7 +53,6 @@ use Rattle.linkinfo.specs.Unmet.{
   role_unmet,
   same_kind,
   strings_unmet,
-  unmet_answer,
   whole_item_unmet,
 }
 use Rattle.linkinfo.specs.declared.role.Role.TheVariants as role
@@ -314,21 +313,3 @@ equal_data payload h w e =
     let met = meets alike h.nla w.nla in
     (contents_met payload.contents met h w).1
     (contents_equal payload.contents met h.nla w.nla (meets_equal alike h.nla w.nla e) e)
-
--- the result for equal strings, the first of which is accepted
-module _ {L : DataTypes} (layer : DataFamilies L) where
-  itself_answer : {X : Type 0} (r : Result X DecodeError) (o : Option Unmet) → Ok tt ≡ verdict r →
-      o ≡ None →
-      Ok None ≡ unmet_answer r r o
-  itself_answer (Ok x) o e none = rw none refl
-  itself_answer (Err d) o e none = absurd cc
-
-  pub equal_answer : (have want : List ℕ) → have ≡ want → Ok tt ≡ verdict (reading layer have) →
-      Ok None ≡ unmet_answer (reading layer have) (reading layer want)
-      (strings_unmet layer have want)
-  equal_answer have want same accepted =
-      subst (λ (s : List ℕ). Ok None
-      ≡ unmet_answer (reading layer have) (reading layer s) (strings_unmet layer have s))
-      same
-      (itself_answer (reading layer have) (strings_unmet layer have have) accepted
-      (string_itself layer have))

@@ -52,15 +52,13 @@ use Rattle.linkinfo.specs.Unmet.{
   Named,
   kinds_named,
   link_at,
-  link_unmet,
   names_after,
   names_before,
   no_names,
   role_of_link,
-  role_unmet,
   same_kind,
-  whole_item_unmet,
 }
+use Rattle.linkinfo.specs.Unmets.{link_unmets, role_unmets, whole_item_unmets}
 use Rattle.linkinfo.specs.UnmetSteps.{
   HasAttribute,
   IsAcceptedLink,
@@ -507,9 +505,9 @@ module _ {L : DataTypes} (layer : DataFamilies L) where
   }
 
   whole_by_role : (h w : Linked) (r : Role) → IsFree r →
-      (if same_kind r h.named w.named then role_unmet layer r h.at w.at
-      else Some (whole_unmet family.LinkInfo w.at (Some h.at)))
-      ≡ whole_item_unmet (row_alike (link_row layer r)) h.at w.at
+      (if same_kind r h.named w.named then role_unmets layer r h.at w.at
+      else whole_unmet family.LinkInfo w.at (Some h.at) ∷ [])
+      ≡ whole_item_unmets (row_alike (link_row layer r)) h.at w.at
   whole_by_role h w (role.Data tag) free = absurd free
   whole_by_role h w role.Xstats free = absurd free
   whole_by_role h w (role.PortData tag) free = absurd free
@@ -518,14 +516,14 @@ module _ {L : DataTypes} (layer : DataFamilies L) where
   whole_by_role h w role.Misplaced free = refl
   whole_by_role h w role.Unknown free = refl
 
-  pub free_unmet : (h w : Linked) (k : ℕ) (t : CurrentKinds) (r : Role) →
+  pub free_unmets : (h w : Linked) (k : ℕ) (t : CurrentKinds) (r : Role) →
       r ≡ role_of t k → k ≡ masked w.at.nla.kind → belongs_to_a_kind k ≡ false →
-      whole_item_unmet (row_alike (link_row layer r)) h.at w.at ≡ link_unmet layer (Some h) w
-  free_unmet h w k t r is number free =
+      whole_item_unmets (row_alike (link_row layer r)) h.at w.at ≡ link_unmets layer (Some h) w
+  free_unmets h w k t r is number free =
       let u = kinds_named w.named in
       let role : r ≡ role_of_link w =
       is ∙ same_role t u k free ∙ ap (λ (n : ℕ). role_of u n) number in
       let has_none : IsFree (role_of_link w) =
       subst (λ (n : ℕ). IsFree (role_of u n)) number (free_role u k free) in
-      ap (λ (q : Role). whole_item_unmet (row_alike (link_row layer q)) h.at w.at) role
+      ap (λ (q : Role). whole_item_unmets (row_alike (link_row layer q)) h.at w.at) role
       ∙ sym (whole_by_role h w (role_of_link w) has_none)

@@ -15,6 +15,7 @@ pub mod Roles
 pub mod Standing
 pub mod Strings
 pub mod Unmet
+pub mod Unmets
 pub mod UnmetSteps
 pub mod Walks
 pub mod Xstats

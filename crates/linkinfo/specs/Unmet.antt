@@ -46,7 +46,7 @@ use Rattle.linkinfo.specs.declared.placed.ErrorIn.{ErrorIn}
 use Rattle.linkinfo.specs.declared.role.CurrentKinds.{CurrentKinds}
 use Rattle.linkinfo.specs.declared.role.Role.TheVariants as role
 use Rattle.linkinfo.specs.declared.role.Role.{Role}
-use Rattle.linkinfo.specs.declared.unmet.Names as declared_names
+use Rattle.linkinfo.specs.declared.request.Names as declared_names
 
 -- ---- attributes with the names of the current kinds
 

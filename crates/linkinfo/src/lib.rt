@@ -17,11 +17,12 @@ mod link_info;
 mod list;
 mod named;
 mod placed;
+mod request;
 mod role;
 mod standing;
 pub mod typed;
-mod unmet;
 pub mod unmet_laws;
+mod unmet_walk;
 mod walk;
 mod xstats;
 
@@ -46,8 +47,9 @@ pub use nla_frame::{
     nlas_fit_len, nlas_to_vec,
 };
 pub use placed::{ErrorAt, ErrorIn, check_at, check_at_of};
+pub use request::{first_unmet, first_unmet_of, next_unmet, next_unmet_of};
 pub use standing::{AttributeAt, attribute_at};
-pub use unmet::{first_unmet, first_unmet_of};
+pub use unmet_walk::{UnmetAttributes, unmet};
 pub use walk::{LinkInfoItem, LinkInfoWalk};
 pub use xstats::LinkXstats;
 

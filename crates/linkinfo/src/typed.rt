@@ -28,6 +28,7 @@ ghost use Rattle.std.specs.Prelude.{
   length,
   map,
   take,
+  true,
 };
 ghost use Rattle.std.specs.List.{AllByRecursion};
 ghost use Rattle.nla_frame.specs.Answers.{verdict};
@@ -42,6 +43,8 @@ ghost use Rattle.linkinfo.specs.Layered.{LinkList, Links};
 ghost use Rattle.linkinfo.specs.Placed.{IsErrorAt, IsRejectedAt};
 ghost use Rattle.linkinfo.specs.Strings.{alike_strings, reading};
 ghost use Rattle.linkinfo.specs.Unmet.{strings_unmet, unmet_answer};
+ghost use Rattle.linkinfo.specs.Unmets.{strings_unmets, unmet_walk};
+ghost use Rattle.linkinfo_table.specs.Unmets.{first_at};
 
 use crate::canonical::{CanonError, canon_of};
 use crate::canonical_into::{CanonIntoError, canon_into_of};
@@ -49,7 +52,8 @@ use crate::difference::first_difference_of;
 use crate::link_info::LinkInfoOf;
 use crate::list::{VecLinkInfoOf, check_of, same_of};
 use crate::placed::{ErrorAt, ErrorIn, check_at_of};
-use crate::unmet::first_unmet_of;
+use crate::request::{first_unmet_of, next_unmet_of};
+use crate::unmet_walk::{UnmetAttributes, check_both};
 pub use linkinfo_data::Typed;
 use linkinfo_data::{Difference, InfoDataOf, InfoPortDataOf, Unmet};
 pub use linkinfo_payloads::{
@@ -138,6 +142,29 @@ pub fn first_unmet(have: &[u8], want: &[u8]) -> Result<Option<Unmet>, ErrorIn>
     ensures no_memory { IfErr result (λ at. either_error at ≢ memory_error) }
 {
     first_unmet_of::<Typed<Bytes>>(have, want)
+}
+
+/// Returns the first attribute of the list `want`, at the offset `from` or after it, that the list
+/// `have` does not meet, or `None` if there is none; `next_unmet_of` says how all are found. The
+/// error is that of `have`, else that of `want`. Does not allocate.
+pub fn next_unmet(have: &[u8], want: &[u8], from: usize) -> Result<Option<Unmet>, ErrorIn>
+    ensures answer { result
+        ≡ unmet_answer (reading typed_layer have.now) (reading typed_layer want.now)
+        (first_at from (strings_unmets typed_layer have.now want.now)) }
+    ensures no_memory { IfErr result (λ at. either_error at ≢ memory_error) }
+{
+    next_unmet_of::<Typed<Bytes>>(have, want, from)
+}
+
+/// Returns an iterator over the attributes of the list `want` that the list `have` does not meet,
+/// in order. The error is that of `have`, else that of `want`. Does not allocate.
+pub fn unmet<'a>(have: &'a [u8], want: &'a [u8]) -> Result<UnmetAttributes<'a>, ErrorIn>
+    ensures answer { result ≡ placed_answer (reading typed_layer have.now)
+        (reading typed_layer want.now) (unmet_walk true have.now want.now) }
+    ensures no_memory { IfErr result (λ at. either_error at ≢ memory_error) }
+{
+    check_both::<Typed<Bytes>>(have, want)?;
+    Ok(UnmetAttributes::new(have, want, true))
 }
 
 /// Returns the first pair of attributes in which two lists differ, or `None` if and only if the

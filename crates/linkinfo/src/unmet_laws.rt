@@ -1,9 +1,10 @@
 //! Laws of `first_unmet`, each the contract of a function without code.
 
-ghost use Rattle.std.specs.Prelude.{◌≡◌, ◌↔◌, ℕ, IsOk, List, None, true};
+ghost use Rattle.std.specs.Prelude.{◌≡◌, ◌↔◌, ℕ, [], IsOk, List, None, true};
 ghost use Rattle.std.specs.List.Sorted.{IsPermutation};
 ghost use Rattle.linkinfo_table.specs.Contents.{Contents, Listed};
 ghost use Rattle.linkinfo_table.specs.Unmet.{list_unmet};
+ghost use Rattle.linkinfo_table.specs.Unmets.{first_at};
 ghost use Rattle.linkinfo.specs.Met.{
   AttributesStay,
   DifferElsewhere,
@@ -14,6 +15,7 @@ ghost use Rattle.linkinfo.specs.Met.{IsReorderedData, IsReorderedList, ListMeets
 ghost use Rattle.linkinfo.specs.Met.{nlas_of};
 ghost use Rattle.linkinfo.specs.Strings.{alike_strings, reading};
 ghost use Rattle.linkinfo.specs.Unmet.{strings_unmet};
+ghost use Rattle.linkinfo.specs.Unmets.{AreInOrder, strings_unmets};
 
 use linkinfo_data::DataLayer;
 use linkinfo_data::laws::families_lawful;
@@ -38,6 +40,18 @@ pub fn met_by_itself<P: DataLayer>()
     ensures data { (l : Listed) (inside : ℕ → Contents) (s : List ℕ) →
         list_unmet l inside s s ≡ None }
     ensures list { (s : List ℕ) → strings_unmet P.families s s ≡ None }
+{}
+
+/// All attributes of `want` that `have` does not meet: the first is the one that `first_unmet`
+/// returns (`first`), each is at a later offset in `want` than the one before it, so none comes
+/// twice (`order`), and there is none exactly if `have` meets `want` as `met_by_last` says
+/// (`none`).
+pub fn all_unmet<P: DataLayer>()
+    ensures first { (have want : List ℕ) → first_at 0 (strings_unmets P.families have want)
+        ≡ strings_unmet P.families have want }
+    ensures order { (have want : List ℕ) → AreInOrder (strings_unmets P.families have want) }
+    ensures none { (have want : List ℕ) → (strings_unmets P.families have want ≡ [])
+        ↔ StringMeets P.families have want }
 {}
 
 /// What is met stays met where other attributes are added or removed. Of data it is enough that the

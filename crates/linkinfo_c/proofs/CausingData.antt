@@ -16,7 +16,7 @@ use Rattle.std.specs.Prelude.{
   Err,
   refl,
 }
-use Rattle.std.proofs.Common.{ap, subst, arith}
+use Rattle.std.proofs.Common.{ap, subst, sym, ◌∙◌, arith}
 use Rattle.nla_frame.specs.Answers.{verdict}
 use Rattle.nla_frame.specs.Error.{cause_number}
 use Rattle.nla_frame.specs.declared.error.Cause.{Cause}
@@ -108,6 +108,7 @@ use Rattle.linkinfo.specs.Layered.{LinkOf}
 use Rattle.linkinfo_data.specs.DataFamilies.{data_families, data_types}
 use Rattle.linkinfo.specs.declared.link_info.LinkInfoOf.TheVariants as link
 use Rattle.linkinfo.specs.declared.xstats.LinkXstats.TheVariants as xstats
+use Rattle.linkinfo.specs.declared.placed.ErrorIn.{ErrorIn}
 use Rattle.linkinfo.specs.declared.role.CurrentKinds.{CurrentKinds}
 use Rattle.linkinfo.specs.declared.role.Role.{Role}
 use Rattle.linkinfo.specs.declared.role.Role.TheVariants as role
@@ -118,6 +119,7 @@ use Rattle.linkinfo_c.specs.Errors.{error_or_none, error_record, same_record}
 use Rattle.linkinfo_c.specs.Items.{error_after}
 use Rattle.linkinfo_c.specs.Unmet.{unmet_record}
 use Rattle.linkinfo_c.specs.declared.attributes.Contents.{Contents}
+use Rattle.linkinfo_c.specs.declared.unmet.LinkinfoUnmet.{LinkinfoUnmet}
 use Rattle.linkinfo_c.proofs.Causing.{
   EachCause,
   EachError,
@@ -466,13 +468,20 @@ same_code (Err e) n alike h k = code_of e.cause (h e refl)
 same_code (Ok x) (Err e) alike h k = code_of e.cause (k e refl)
 same_code (Ok x) (Ok y) alike h k = no_code
 
--- the result of `first_unmet`: the error of the link's list, that of the request, or none
-pub unmet_code : {X : Type 0} (m n : Result X DecodeError) (u : Option Unmet) → EachError m →
-    EachError n → IsReturnedCode (unmet_record (unmet_answer m n u)).error.cause
-unmet_code (Err e) n u h k = code_of e.cause (h e refl)
-unmet_code (Ok x) (Err e) u h k = code_of e.cause (k e refl)
-unmet_code (Ok x) (Ok y) None h k = no_code
-unmet_code (Ok x) (Ok y) (Some u) h k = no_code
+-- the result of `next_unmet`: the error of the link's list, that of the request, or none
+pub unmet_code : {X : Type 0} (m n : Result X DecodeError) (u : Option Unmet)
+    (answer : Result (Option Unmet) ErrorIn) (z : LinkinfoUnmet) → answer ≡ unmet_answer m n u →
+    z ≡ unmet_record answer → EachError m → EachError n → IsReturnedCode z.error.cause
+unmet_code m n u answer z is e h k =
+    subst (λ (z : LinkinfoUnmet). IsReturnedCode z.error.cause) (sym (e ∙ ap unmet_record is))
+    (each m n u h k)
+  where
+    each : {X : Type 0} (m n : Result X DecodeError) (u : Option Unmet) → EachError m →
+        EachError n → IsReturnedCode (unmet_record (unmet_answer m n u)).error.cause
+    each (Err e) n u h k = code_of e.cause (h e refl)
+    each (Ok x) (Err e) u h k = code_of e.cause (k e refl)
+    each (Ok x) (Ok y) None h k = no_code
+    each (Ok x) (Ok y) (Some u) h k = no_code
 
 -- the result of `first_difference`: the error of the first list, that of the second, or none
 pub difference_code : {X : Type 0} (m n : Result X DecodeError) (d : Option Difference) →

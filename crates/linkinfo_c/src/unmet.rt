@@ -1,16 +1,18 @@
-//! Whether a link has all attributes of a request, and the first one that it lacks.
+//! Whether a link has all attributes of a request, and those that it lacks, one after another.
 
 ghost use Rattle.std.specs.Prelude.{◌≡◌};
 ghost use Rattle.linkinfo_data.specs.BytesLayer.{bytes_layer};
 ghost use Rattle.linkinfo_data.specs.TypedLayer.{typed_layer};
 ghost use Rattle.linkinfo.specs.Strings.{reading};
 ghost use Rattle.linkinfo.specs.Unmet.{strings_unmet, unmet_answer};
+ghost use Rattle.linkinfo.specs.Unmets.{strings_unmets};
+ghost use Rattle.linkinfo_table.specs.Unmets.{first_at};
 ghost use Rattle.linkinfo_c.specs.Causes.{IsReturnedCode};
 ghost use Rattle.linkinfo_c.specs.Unmet.{lacking, rejected, unmet_record};
 
 use crate::codes::family_code;
 use crate::error::{LinkinfoError, NO_ERROR, error_record};
-use linkinfo::{DecodeError, ErrorIn, Unmet, first_unmet, typed};
+use linkinfo::{DecodeError, ErrorIn, Unmet, first_unmet, next_unmet, typed};
 
 /// `struct linkinfo_unmet`: whether a link has all attributes of a request, and the first one that
 /// it lacks.
@@ -31,7 +33,8 @@ pub struct LinkinfoUnmet {
     /// The offset in the link's list, in bytes, of the last attribute of that type; 0 if the link
     /// has none.
     pub have: usize,
-    /// Whether all attributes of the request are met; false with an error.
+    /// Whether all attributes of the request are met, of those that are asked for; false with an
+    /// error.
     pub met: bool,
     /// Whether the link has an attribute of that type, at `have`.
     pub is_present: bool,
@@ -111,4 +114,29 @@ pub extern "C" fn linkinfo_first_unmet_opaque(have: &[u8], want: &[u8]) -> Linki
     ensures cause { IsReturnedCode result.error.cause }
 {
     unmet_record(first_unmet(have, want))
+}
+
+/// Returns the first attribute of the request `want`, at the offset `from` or after it, that the
+/// link's list `have` lacks, or that none is left. With 0 it is what `linkinfo_first_unmet`
+/// returns, and the one after an attribute at `want` is that from `want + 1` on.
+#[unsafe(no_mangle)]
+pub extern "C" fn linkinfo_next_unmet(have: &[u8], want: &[u8], from: usize) -> LinkinfoUnmet
+    ensures answer { result
+        ≡ unmet_record (unmet_answer (reading typed_layer have.now) (reading typed_layer want.now)
+        (first_at from (strings_unmets typed_layer have.now want.now))) }
+    ensures cause { IsReturnedCode result.error.cause }
+{
+    unmet_record(typed::next_unmet(have, want, from))
+}
+
+/// Returns what `linkinfo_next_unmet` does, over the layer that keeps attributes of bonds, bridges
+/// and their like verbatim.
+#[unsafe(no_mangle)]
+pub extern "C" fn linkinfo_next_unmet_opaque(have: &[u8], want: &[u8], from: usize) -> LinkinfoUnmet
+    ensures answer { result
+        ≡ unmet_record (unmet_answer (reading bytes_layer have.now) (reading bytes_layer want.now)
+        (first_at from (strings_unmets bytes_layer have.now want.now))) }
+    ensures cause { IsReturnedCode result.error.cause }
+{
+    unmet_record(next_unmet(have, want, from))
 }

@@ -37,10 +37,11 @@ use Rattle.linkinfo_table.specs.Lists.{
   values,
 }
 use Rattle.linkinfo_table.specs.Unmet.{IsUnmetWithin}
+use Rattle.linkinfo_table.specs.Unmets.{first_at}
 use Rattle.linkinfo_table.specs.declared.difference.Difference.{Difference}
 use Rattle.linkinfo_table.specs.declared.unmet.Unmet.{Unmet}
 use Rattle.linkinfo_data.specs.Encoding.{HasRoom}
-use Rattle.linkinfo_data.specs.Lists.{difference_in, error_in, unmet_in}
+use Rattle.linkinfo_data.specs.Lists.{difference_in, error_in, unmets_in}
 use Rattle.linkinfo_data.specs.Payloads.{Payload}
 
 -- of payloads, what does not depend on the variant: as in `Payload`
@@ -124,12 +125,13 @@ ErrorFound facts p result =
 abbrev pub PairReady : Facts → List ℕ → List ℕ → Type 0
 PairReady facts p q = IsOk (facts.verdicts p) × IsOk (facts.verdicts q)
 
--- their first difference, and the first attribute of one that the other does not meet
+-- their first difference, and the first attribute of one, from an offset on, that the other does
+-- not meet
 abbrev pub DifferenceFound : Facts → List ℕ → List ℕ → Option Difference → Type 0
 DifferenceFound facts p q result =
     (result ≡ difference_in facts.contents p q) × IfSome result (IsWithin (length p) (length q))
 
-abbrev pub UnmetFound : Facts → List ℕ → List ℕ → Option Unmet → Type 0
-UnmetFound facts have want result =
-    (result ≡ unmet_in facts.contents have want)
+abbrev pub UnmetFound : Facts → List ℕ → List ℕ → ℕ → Option Unmet → Type 0
+UnmetFound facts have want from result =
+    (result ≡ first_at from (unmets_in facts.contents have want))
     × IfSome result (IsUnmetWithin (length want) (length have))

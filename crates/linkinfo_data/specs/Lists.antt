@@ -1,9 +1,9 @@
 -- Payloads that are lists of attributes.
-use Rattle.std.specs.Prelude.{ℕ, List, Option, None, Some}
+use Rattle.std.specs.Prelude.{ℕ, List, [], Option, None, Some}
 use Rattle.nla_frame.specs.declared.error.Family.{Family}
 use Rattle.linkinfo_table.specs.Contents.{Contents, ListOf, NoList}
 use Rattle.linkinfo_table.specs.Difference.{list_difference, list_error}
-use Rattle.linkinfo_table.specs.Unmet.{list_unmet}
+use Rattle.linkinfo_table.specs.Unmets.{list_unmets}
 use Rattle.linkinfo_table.specs.declared.difference.Difference.{Difference}
 use Rattle.linkinfo_table.specs.declared.unmet.Unmet.{Unmet}
 
@@ -22,7 +22,7 @@ abbrev pub difference_in : Contents → List ℕ → List ℕ → Option Differe
 difference_in (NoList place count) p q = None
 difference_in (ListOf l inside) p q = list_difference l inside p q
 
--- the first attribute of a payload that is a list that another one does not meet
-abbrev pub unmet_in : Contents → List ℕ → List ℕ → Option Unmet
-unmet_in (NoList place count) have want = None
-unmet_in (ListOf l inside) have want = list_unmet l inside have want
+-- the attributes of a payload that is a list that another one does not meet
+abbrev pub unmets_in : Contents → List ℕ → List ℕ → List Unmet
+unmets_in (NoList place count) have want = []
+unmets_in (ListOf l inside) have want = list_unmets l inside have want

@@ -21,9 +21,10 @@ ghost use Rattle.linkinfo_table.specs.Calls.{Checks, Compares, Reads};
 ghost use Rattle.linkinfo_table.specs.Difference.{IsWithin};
 ghost use Rattle.linkinfo_table.specs.Lists.{Measures};
 ghost use Rattle.linkinfo_table.specs.Unmet.{IsUnmetWithin};
+ghost use Rattle.linkinfo_table.specs.Unmets.{first_at};
 ghost use Rattle.linkinfo_data.specs.Asking.{facts_of};
 ghost use Rattle.linkinfo_data.specs.Known.{IsKnown};
-ghost use Rattle.linkinfo_data.specs.Lists.{difference_in, error_in, family_in, unmet_in};
+ghost use Rattle.linkinfo_data.specs.Lists.{difference_in, error_in, family_in, unmets_in};
 ghost use Rattle.linkinfo_data.specs.Payloads.{Payload};
 
 use crate::ask::{
@@ -175,8 +176,8 @@ pub fn list_difference<P, F: PayloadFamily<P>>(family: F, a: &[u8], b: &[u8]) ->
     family.ask(FindDifference { a, b }, &mut HeaderCount::new(), &mut [])
 }
 
-/// Returns the first attribute of `want` that `have` does not meet, of two accepted payloads, or
-/// `None` if it meets all of them.
+/// Returns the first attribute of `want`, at the offset `from` or after it, that `have` does not
+/// meet, of two accepted payloads, or `None` if it meets all of them.
 ///
 /// Of several attributes of a type the last one counts, as in the kernel. It is met where the last
 /// attribute of its type in `have` has an equal payload or is equivalent; flags of the type do not
@@ -188,12 +189,22 @@ pub fn list_difference<P, F: PayloadFamily<P>>(family: F, a: &[u8], b: &[u8]) ->
 /// `have`; of sets `have` is passed over once for each attribute of `want`. Does not allocate.
 /// Requires that both payloads are accepted, and that payloads of this family are lists
 /// (`listing`).
-pub fn list_unmet<P, F: PayloadFamily<P>>(family: F, have: &[u8], want: &[u8]) -> Option<Unmet>
+pub fn list_unmet<P, F: PayloadFamily<P>>(
+    family: F,
+    have: &[u8],
+    want: &[u8],
+    from: usize,
+) -> Option<Unmet>
     requires listed { IsSome (family_in (F.data_of family).contents) }
     requires have { IsOk ((F.data_of family).means have.now) }
     requires want { IsOk ((F.data_of family).means want.now) }
-    ensures unmet { result ≡ unmet_in (F.data_of family).contents have.now want.now }
+    ensures unmet { result
+        ≡ first_at from (unmets_in (F.data_of family).contents have.now want.now) }
     ensures within { IfSome result (IsUnmetWithin (length want.now) (length have.now)) }
 {
-    family.ask(FindUnmet { have, want }, &mut HeaderCount::new(), &mut [])
+    family.ask(
+        FindUnmet { have, want, from },
+        &mut HeaderCount::new(),
+        &mut [],
+    )
 }

@@ -15,7 +15,8 @@ ghost use Rattle.linkinfo_table.specs.Difference.{
 };
 ghost use Rattle.linkinfo_table.specs.FamilyMeaning.{alike_by, meaning_by};
 ghost use Rattle.linkinfo_table.specs.Lists.{values};
-ghost use Rattle.linkinfo_table.specs.Unmet.{IsUnmetWithin, attribute_unmet};
+ghost use Rattle.linkinfo_table.specs.Unmet.{IsUnmetWithin};
+ghost use Rattle.linkinfo_table.specs.Unmets.{attribute_unmets, first_at};
 ghost use Rattle.linkinfo_devices.specs.Nested.{self_listed};
 
 use crate::nested_calls::nested_same;
@@ -166,12 +167,13 @@ fn pair_difference<F: NestedFamily>(
 }
 
 /// What of the attribute `want` the attribute `have` of its type, both inside `lists` lists, does
-/// not meet: all of it, if the payloads are neither equal nor equivalent. Requires that each is
-/// accepted. Does not allocate.
+/// not meet: all of it, if the payloads are neither equal nor equivalent, and it is at the offset
+/// `from` or after it. Requires that each is accepted. Does not allocate.
 pub fn nested_unmet<F: NestedFamily>(
     have: &PlacedNla<'_>,
     want: &PlacedNla<'_>,
     lists: u8,
+    from: usize,
 ) -> Option<Unmet>
     requires have { IsOk (meaning_by F.RowFamily.own lists have.now.nla) }
     requires want { IsOk (meaning_by F.RowFamily.own lists want.now.nla) }
@@ -179,11 +181,11 @@ pub fn nested_unmet<F: NestedFamily>(
     requires have_room { end_of have.now < 2 ^ 64 }
     requires want_room { end_of want.now < 2 ^ 64 }
     ensures unmet { result
-        ≡ attribute_unmet (F.contents lists) F.FAMILY (alike_by F.RowFamily.own lists)
-        have.now want.now }
+        ≡ first_at from (attribute_unmets (F.contents lists) F.FAMILY
+        (alike_by F.RowFamily.own lists) have.now want.now) }
     ensures within { IfSome result (IsUnmetWithin (end_of want.now) (end_of have.now)) }
 {
     let is_met = have.nla.value() == want.nla.value()
         || nested_same::<F>(&have.nla, &want.nla, lists, &mut HeaderCount::new());
-    unmet_as_whole(F::FAMILY, is_met, have, want)
+    unmet_as_whole(F::FAMILY, is_met, have, want, from)
 }

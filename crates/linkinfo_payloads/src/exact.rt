@@ -35,7 +35,8 @@ ghost use Rattle.linkinfo_table.specs.Difference.{
   payload_error,
 };
 ghost use Rattle.linkinfo_table.specs.Payloads.{IsExact, placed};
-ghost use Rattle.linkinfo_table.specs.Unmet.{IsUnmetWithin, payload_unmet};
+ghost use Rattle.linkinfo_table.specs.Unmet.{IsUnmetWithin};
+ghost use Rattle.linkinfo_table.specs.Unmets.{first_at, payload_unmets};
 ghost use Rattle.linkinfo_payloads.specs.Exact.{IsExactly, exact_means};
 
 use linkinfo_table::{Difference, PlacedNla, Shape, Unmet, unmet_as_whole, whole_difference};
@@ -189,16 +190,27 @@ pub fn exact_difference(family: Family, a: &PlacedNla<'_>, b: &PlacedNla<'_>) ->
 }
 
 /// Returns the attribute `want` as a whole if its payload is not that of `have`, and `None` if it
-/// is. Does not allocate.
-pub fn exact_unmet(family: Family, have: &PlacedNla<'_>, want: &PlacedNla<'_>) -> Option<Unmet>
+/// is, or if `want` is before the offset `from`. Does not allocate.
+pub fn exact_unmet(
+    family: Family,
+    have: &PlacedNla<'_>,
+    want: &PlacedNla<'_>,
+    from: usize,
+) -> Option<Unmet>
     ensures unmet { result
-        ≡ payload_unmet single_value family
+        ≡ first_at from (payload_unmets single_value family
         (bytes_eq have.now.nla.value want.now.nla.value
         || bytes_eq have.now.nla.value want.now.nla.value)
-        have.now want.now }
+        have.now want.now) }
     ensures within { IfSome result (IsUnmetWithin (end_of want.now) (end_of have.now)) }
 {
-    unmet_as_whole(family, have.nla.value() == want.nla.value(), have, want)
+    unmet_as_whole(
+        family,
+        have.nla.value() == want.nla.value(),
+        have,
+        want,
+        from,
+    )
 }
 
 /// The error of a payload of another length.

@@ -167,8 +167,13 @@ impl LinkPayload for BridgeId {
         exact_difference(family, a, b)
     }
 
-    fn unmet(family: Family, have: &PlacedNla<'_>, want: &PlacedNla<'_>) -> Option<Unmet> {
-        exact_unmet(family, have, want)
+    fn unmet(
+        family: Family,
+        have: &PlacedNla<'_>,
+        want: &PlacedNla<'_>,
+        from: usize,
+    ) -> Option<Unmet> {
+        exact_unmet(family, have, want, from)
     }
 }
 
@@ -299,8 +304,13 @@ impl LinkPayload for CanBerrCounter {
         exact_difference(family, a, b)
     }
 
-    fn unmet(family: Family, have: &PlacedNla<'_>, want: &PlacedNla<'_>) -> Option<Unmet> {
-        exact_unmet(family, have, want)
+    fn unmet(
+        family: Family,
+        have: &PlacedNla<'_>,
+        want: &PlacedNla<'_>,
+        from: usize,
+    ) -> Option<Unmet> {
+        exact_unmet(family, have, want, from)
     }
 }
 
@@ -457,8 +467,13 @@ impl LinkPayload for CanBitTiming {
         exact_difference(family, a, b)
     }
 
-    fn unmet(family: Family, have: &PlacedNla<'_>, want: &PlacedNla<'_>) -> Option<Unmet> {
-        exact_unmet(family, have, want)
+    fn unmet(
+        family: Family,
+        have: &PlacedNla<'_>,
+        want: &PlacedNla<'_>,
+        from: usize,
+    ) -> Option<Unmet> {
+        exact_unmet(family, have, want, from)
     }
 }
 
@@ -631,7 +646,12 @@ impl LinkPayload for CanBitTimingConst {
         exact_difference(family, a, b)
     }
 
-    fn unmet(family: Family, have: &PlacedNla<'_>, want: &PlacedNla<'_>) -> Option<Unmet> {
-        exact_unmet(family, have, want)
+    fn unmet(
+        family: Family,
+        have: &PlacedNla<'_>,
+        want: &PlacedNla<'_>,
+        from: usize,
+    ) -> Option<Unmet> {
+        exact_unmet(family, have, want, from)
     }
 }

@@ -1,3 +1,5 @@
+pub mod AllUnmets
+pub mod UnmetOrder
 mod RowPayloads
 mod Firsts
 pub mod Blocks

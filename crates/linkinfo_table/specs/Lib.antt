@@ -41,3 +41,4 @@ pub mod SelfList
 pub mod TableFamily
 pub mod TypedRows
 pub mod Unmet
+pub mod Unmets

@@ -65,7 +65,8 @@ ghost use Rattle.linkinfo_table.specs.FamilyMeaning.{
 ghost use Rattle.linkinfo_table.specs.FamilyRows.{IsFlat, lookup_of};
 ghost use Rattle.linkinfo_table.specs.FlatLaws.{none_inside};
 ghost use Rattle.linkinfo_table.specs.TypedRows.{IsTyped};
-ghost use Rattle.linkinfo_table.specs.Unmet.{IsUnmetWithin, attribute_unmet};
+ghost use Rattle.linkinfo_table.specs.Unmet.{IsUnmetWithin};
+ghost use Rattle.linkinfo_table.specs.Unmets.{attribute_unmets, first_at};
 ghost use Rattle.nla_frame.specs.declared.error.Family.{Family};
 
 use crate::canonical::{row_canonical_len, row_write_canonical};
@@ -259,10 +260,15 @@ pub trait CustomRows<F: RowFamily> {
             a.now b.now }
         ensures within { IfSome result (IsWithin (end_of a.now) (end_of b.now)) };
 
-    /// What of the attribute `want` the attribute `have` of its type does not meet: the first
-    /// attribute that is not met in its list, if it contains one, otherwise all of it. Requires
-    /// that each is accepted. Does not allocate.
-    fn unmet(have: &PlacedNla<'_>, want: &PlacedNla<'_>, ctx: F::Context) -> Option<Unmet>
+    /// What of the attribute `want` the attribute `have` of its type does not meet, at the offset
+    /// `from` or after it: the first attribute that is not met in its list, if it contains one,
+    /// otherwise all of it. Requires that each is accepted. Does not allocate.
+    fn unmet(
+        have: &PlacedNla<'_>,
+        want: &PlacedNla<'_>,
+        ctx: F::Context,
+        from: usize,
+    ) -> Option<Unmet>
         requires have { IsOk (meaning_by F.RowFamily.own ctx have.now.nla) }
         requires want { IsOk (meaning_by F.RowFamily.own ctx want.now.nla) }
         requires same_type { masked have.now.nla.kind ≡ masked want.now.nla.kind }
@@ -271,8 +277,8 @@ pub trait CustomRows<F: RowFamily> {
         requires flat { owned (masked want.now.nla.kind) ≡ false →
             IsFlat (F.rows ctx (masked want.now.nla.kind)) }
         ensures unmet { result
-            ≡ attribute_unmet contents F.FAMILY (alike_by F.RowFamily.own ctx)
-            have.now want.now }
+            ≡ first_at from (attribute_unmets contents F.FAMILY (alike_by F.RowFamily.own ctx)
+            have.now want.now) }
         ensures within { IfSome result (IsUnmetWithin (end_of want.now) (end_of have.now)) };
 
     ghost typed: { (c : F.Context) (n : ℕ) → owned n ≡ true → IsTyped inside (F.rows c n) };
@@ -402,10 +408,15 @@ impl<F: RowFamily> CustomRows<F> for () {
     }
 
     #[inline]
-    fn unmet(have: &PlacedNla<'_>, want: &PlacedNla<'_>, ctx: F::Context) -> Option<Unmet> {
+    fn unmet(
+        have: &PlacedNla<'_>,
+        want: &PlacedNla<'_>,
+        ctx: F::Context,
+        from: usize,
+    ) -> Option<Unmet> {
         let is_met = have.nla.value() == want.nla.value()
             || row_same::<F>(&have.nla, &want.nla, ctx);
-        unmet_as_whole(F::FAMILY, is_met, have, want)
+        unmet_as_whole(F::FAMILY, is_met, have, want, from)
     }
 }
 
@@ -572,11 +583,16 @@ impl<F: RowFamily, R: PayloadRow<F>, Rest: CustomRows<F>> CustomRows<F> for (R, 
         }
     }
 
-    fn unmet(have: &PlacedNla<'_>, want: &PlacedNla<'_>, ctx: F::Context) -> Option<Unmet> {
+    fn unmet(
+        have: &PlacedNla<'_>,
+        want: &PlacedNla<'_>,
+        ctx: F::Context,
+        from: usize,
+    ) -> Option<Unmet> {
         if want.nla.kind() == R::NUMBER {
-            payload_unmet::<F, R>(have, want, ctx)
+            payload_unmet::<F, R>(have, want, ctx, from)
         } else {
-            Rest::unmet(have, want, ctx)
+            Rest::unmet(have, want, ctx, from)
         }
     }
 }

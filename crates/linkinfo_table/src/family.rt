@@ -50,7 +50,8 @@ ghost use Rattle.linkinfo_table.specs.Difference.{
 };
 ghost use Rattle.linkinfo_table.specs.Lookups.{HoldsNone, LookupSays};
 ghost use Rattle.linkinfo_table.specs.Members.{IsFamily, members_at};
-ghost use Rattle.linkinfo_table.specs.Unmet.{IsUnmetWithin, attribute_unmet};
+ghost use Rattle.linkinfo_table.specs.Unmet.{IsUnmetWithin};
+ghost use Rattle.linkinfo_table.specs.Unmets.{attribute_unmets, first_at};
 ghost use Rattle.linkinfo_table.specs.declared.lookup.Lookup.{Lookup};
 
 use crate::difference::Difference;
@@ -211,19 +212,25 @@ pub trait LinkFamily: Nla + Sized + Drop {
         ensures within { IfSome result (IsWithin (end_of a.now) (end_of b.now)) };
 
     /// Returns what of the attribute `want` the attribute `have` of its type does not meet: the
-    /// first attribute that is not met in its list, if it contains one, otherwise all of it.
+    /// first attribute that is not met in its list, if it contains one, otherwise all of it. Only
+    /// attributes at the offset `from` or after it are looked for.
     ///
     /// An attribute is met by an equal payload, and by an equivalent attribute. A list of the
     /// family itself is met as a whole. Offsets are in bytes from the beginning of the lists that
     /// the attributes are in. Requires that each is accepted. Does not allocate.
-    fn unmet(have: &PlacedNla<'_>, want: &PlacedNla<'_>, ctx: Self::Context) -> Option<Unmet>
+    fn unmet(
+        have: &PlacedNla<'_>,
+        want: &PlacedNla<'_>,
+        ctx: Self::Context,
+        from: usize,
+    ) -> Option<Unmet>
         requires have { IsOk (meaning ctx have.now.nla) }
         requires want { IsOk (meaning ctx want.now.nla) }
         requires same_type { masked have.now.nla.kind ≡ masked want.now.nla.kind }
         requires have_room { end_of have.now < 2 ^ 64 }
         requires want_room { end_of want.now < 2 ^ 64 }
         ensures unmet { result
-            ≡ attribute_unmet (contents ctx) FAMILY (alike ctx) have.now want.now }
+            ≡ first_at from (attribute_unmets (contents ctx) FAMILY (alike ctx) have.now want.now) }
         ensures within { IfSome result (IsUnmetWithin (end_of want.now) (end_of have.now)) };
 
     ghost keeps: { (nla : DefaultNla) → Self.attribute (keeping nla) ≡ attribute_of nla };

@@ -32,7 +32,8 @@ ghost use Rattle.linkinfo_table.specs.Difference.{
   payload_error,
 };
 ghost use Rattle.linkinfo_table.specs.Payloads.{IsPayload, codec_with, placed};
-ghost use Rattle.linkinfo_table.specs.Unmet.{IsUnmetWithin, payload_unmet};
+ghost use Rattle.linkinfo_table.specs.Unmet.{IsUnmetWithin};
+ghost use Rattle.linkinfo_table.specs.Unmets.{first_at, payload_unmets};
 ghost use Rattle.linkinfo_shapes.specs.declared.shape.Shape.{Shape};
 ghost use Rattle.nla_frame.specs.declared.error.Family.{Family};
 ghost use Rattle.std.specs.Str.{bytes_eq};
@@ -171,20 +172,26 @@ pub trait LinkPayload: Sized + Eq + ExactEq + Drop {
 
     /// Returns what of the attribute `want` of this family the attribute `have`, both with such
     /// payloads, does not meet: the first attribute that is not met in its list, if it contains
-    /// one, otherwise all of it. Equal and equivalent payloads meet one another.
+    /// one, otherwise all of it. Equal and equivalent payloads meet one another. Only attributes at
+    /// the offset `from` or after it are looked for.
     ///
     /// Offsets are in bytes from the beginning of the lists that the attributes are in. Requires
     /// that each payload is accepted. Does not allocate.
-    fn unmet(family: Family, have: &PlacedNla<'_>, want: &PlacedNla<'_>) -> Option<Unmet>
+    fn unmet(
+        family: Family,
+        have: &PlacedNla<'_>,
+        want: &PlacedNla<'_>,
+        from: usize,
+    ) -> Option<Unmet>
         requires have { IsOk (means have.now.nla.value) }
         requires want { IsOk (means want.now.nla.value) }
         requires have_room { end_of have.now < 2 ^ 64 }
         requires want_room { end_of want.now < 2 ^ 64 }
         ensures unmet { result
-            ≡ payload_unmet contents family
+            ≡ first_at from (payload_unmets contents family
             (bytes_eq have.now.nla.value want.now.nla.value
             || alike have.now.nla.value want.now.nla.value)
-            have.now want.now }
+            have.now want.now) }
         ensures within { IfSome result (IsUnmetWithin (end_of want.now) (end_of have.now)) };
 
     /// What payloads contain agrees with which are accepted, and which two are equivalent.

@@ -32,7 +32,8 @@ ghost use Rattle.linkinfo_table.specs.FamilyMeaning.{
 };
 ghost use Rattle.linkinfo_table.specs.Payloads.{wrapped};
 ghost use Rattle.linkinfo_table.specs.Rows.{written_kind};
-ghost use Rattle.linkinfo_table.specs.Unmet.{IsUnmetWithin, meets, payload_unmet};
+ghost use Rattle.linkinfo_table.specs.Unmet.{IsUnmetWithin, meets};
+ghost use Rattle.linkinfo_table.specs.Unmets.{first_at, payload_unmets};
 
 use crate::difference::Difference;
 use crate::last::PlacedNla;
@@ -229,12 +230,13 @@ pub fn payload_difference<F: RowFamily, R: PayloadRow<F>>(
     R::Payload::difference(F::FAMILY, a, b)
 }
 
-/// What of the attribute `want` of the row the attribute `have` of it does not meet. Requires that
-/// each is accepted. Does not allocate.
+/// What of the attribute `want` of the row the attribute `have` of it does not meet, at the offset
+/// `from` or after it. Requires that each is accepted. Does not allocate.
 pub fn payload_unmet<F: RowFamily, R: PayloadRow<F>>(
     have: &PlacedNla<'_>,
     want: &PlacedNla<'_>,
     ctx: F::Context,
+    from: usize,
 ) -> Option<Unmet>
     requires have { IsOk (meaning_by F.RowFamily.own ctx have.now.nla) }
     requires want { IsOk (meaning_by F.RowFamily.own ctx want.now.nla) }
@@ -243,9 +245,9 @@ pub fn payload_unmet<F: RowFamily, R: PayloadRow<F>>(
     requires have_room { end_of have.now < 2 ^ 64 }
     requires want_room { end_of want.now < 2 ^ 64 }
     ensures unmet { result
-        ≡ payload_unmet R.Payload.contents F.FAMILY
-        (meets (alike_by F.RowFamily.own ctx) have.now.nla want.now.nla) have.now want.now }
+        ≡ first_at from (payload_unmets R.Payload.contents F.FAMILY
+        (meets (alike_by F.RowFamily.own ctx) have.now.nla want.now.nla) have.now want.now) }
     ensures within { IfSome result (IsUnmetWithin (end_of want.now) (end_of have.now)) }
 {
-    R::Payload::unmet(F::FAMILY, have, want)
+    R::Payload::unmet(F::FAMILY, have, want, from)
 }

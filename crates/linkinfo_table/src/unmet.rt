@@ -5,8 +5,11 @@ ghost use Rattle.std.specs.Prelude.{
   ◌==◌,
   ◌&&◌,
   ◌+◌,
+  ◌-◌,
   ◌<◌,
   ◌^◌,
+  [],
+  ◌∷◌,
   IfSome,
   IsOk,
   length,
@@ -20,20 +23,23 @@ ghost use Rattle.linkinfo_table.specs.Last.{attributes_of, covers};
 ghost use Rattle.linkinfo_table.specs.Lists.{values};
 ghost use Rattle.linkinfo_table.specs.Unmet.{
   IsUnmetWithin,
-  attribute_unmet,
   counted_unmet,
   earlier,
   end_of_found,
   first_told,
-  found_unmet,
   inner_unmet,
   is_like,
-  item_unmet,
   lasts_unmet,
-  list_unmet,
   meets,
-  members_unmet,
   unmet_by,
+};
+ghost use Rattle.linkinfo_table.specs.Unmets.{
+  attribute_unmets,
+  first_at,
+  found_unmets,
+  item_unmets,
+  list_unmets,
+  members_unmets,
 };
 
 use crate::family::LinkFamily;
@@ -91,6 +97,23 @@ impl Unmet {
         }
     }
 
+    /// As `of_whole`, or `None` if the attribute is before the offset `from`.
+    pub fn of_whole_from(
+        family: Family,
+        want: &PlacedNla<'_>,
+        have: Option<usize>,
+        from: usize,
+    ) -> Option<Unmet>
+        ensures unmet { result ≡ first_at from (unmet_by family want.now have ∷ []) }
+        ensures within { IfSome result (λ u. u ≡ unmet_by family want.now have) }
+    {
+        if want.offset < from {
+            None
+        } else {
+            Some(Unmet::of_whole(family, want, have))
+        }
+    }
+
     /// What is not met of the payloads of two attributes, with the offsets from the beginning of
     /// the lists that these attributes are in. Requires that each sum is a `usize`.
     pub fn inside(self, want: &PlacedNla<'_>, have: &PlacedNla<'_>) -> Unmet
@@ -110,26 +133,39 @@ impl Unmet {
     }
 }
 
-/// What of an attribute another one of its type does not meet, as a whole: nothing if it is met.
+impl PlacedNla<'_> {
+    /// An offset in the list that the attribute is in, as an offset in its payload: 0 if it is
+    /// before the payload. Requires that the payload begins in memory.
+    pub fn from_inside(&self, from: usize) -> usize
+        requires { self.now.offset + 4 < 2 ^ 64 }
+        ensures { result ≡ from - (self.now.offset + 4) }
+    {
+        from.saturating_sub(self.offset + 4)
+    }
+}
+
+/// What of an attribute another one of its type does not meet, as a whole: nothing if it is met, or
+/// before the offset `from`.
 pub fn unmet_as_whole(
     family: Family,
     is_met: bool,
     have: &PlacedNla<'_>,
     want: &PlacedNla<'_>,
+    from: usize,
 ) -> Option<Unmet>
-    ensures unmet { result ≡ item_unmet family is_met have.now want.now }
+    ensures unmet { result ≡ first_at from (item_unmets family is_met have.now want.now) }
     ensures within { IfSome result (IsUnmetWithin (end_of want.now) (end_of have.now)) }
 {
     if is_met {
         None
     } else {
-        Some(Unmet::of_whole(family, want, Some(have.offset)))
+        Unmet::of_whole_from(family, want, Some(have.offset), from)
     }
 }
 
-/// Returns the first attribute of the list `want` that the list `have` does not meet, or `None` if
-/// it meets all of them. Both are accepted lists of attributes of a family. Offsets are in bytes
-/// from the beginning of each list.
+/// Returns the first attribute of the list `want`, at the offset `from` or after it, that the list
+/// `have` does not meet, or `None` if it meets all of them. Both are accepted lists of attributes
+/// of a family. Offsets are in bytes from the beginning of each list.
 ///
 /// Of several attributes of a type the last one counts, as in the kernel, and the last one of that
 /// type in `have` must meet it: by an equal payload, or an equivalent one. An attribute that
@@ -139,27 +175,39 @@ pub fn unmet_as_whole(
 /// Each list is passed over once for `want`, and for every `INDEXED` types up to the largest in
 /// `want` twice over `want` and once over `have`. All types of rows are below `INDEXED`. Of sets
 /// `have` is passed over once for each attribute of `want`. Does not allocate.
-pub fn list_unmet<F: LinkFamily>(have: &[u8], want: &[u8], ctx: F::Context) -> Option<Unmet>
+pub fn list_unmet<F: LinkFamily>(
+    have: &[u8],
+    want: &[u8],
+    ctx: F::Context,
+    from: usize,
+) -> Option<Unmet>
     requires have { IsOk (values (F.meaning ctx) (nla_items have.now)) }
     requires want { IsOk (values (F.meaning ctx) (nla_items want.now)) }
     ensures unmet { result
-        ≡ list_unmet (listed F.FAMILY (F.meaning ctx) (F.alike ctx) F.IS_SET) (F.contents ctx)
-        have.now want.now }
+        ≡ first_at from (list_unmets (listed F.FAMILY (F.meaning ctx) (F.alike ctx) F.IS_SET)
+        (F.contents ctx) have.now want.now) }
     ensures within { IfSome result (IsUnmetWithin (length want.now) (length have.now)) }
 {
     if F::IS_SET {
-        members_unmet::<F>(have, want, ctx)
+        members_unmet::<F>(have, want, ctx, from)
     } else {
-        lasts_unmet::<F>(have, want, ctx)
+        lasts_unmet::<F>(have, want, ctx, from)
     }
 }
 
-/// The first attribute of the set `want` that none of the set `have` meets.
-fn members_unmet<F: LinkFamily>(have: &[u8], want: &[u8], ctx: F::Context) -> Option<Unmet>
+/// The first attribute of the set `want`, at the offset `from` or after it, that none of the set
+/// `have` meets.
+fn members_unmet<F: LinkFamily>(
+    have: &[u8],
+    want: &[u8],
+    ctx: F::Context,
+    from: usize,
+) -> Option<Unmet>
     requires have { IsOk (values (F.meaning ctx) (nla_items have.now)) }
     requires want { IsOk (values (F.meaning ctx) (nla_items want.now)) }
     ensures unmet { result
-        ≡ members_unmet F.FAMILY (F.alike ctx) (attributes_of have.now) (attributes_of want.now) }
+        ≡ first_at from
+        (members_unmets F.FAMILY (F.alike ctx) (attributes_of have.now) (attributes_of want.now)) }
     ensures within { IfSome result (IsUnmetWithin (length want.now) (length have.now)) }
 {
     let mut count = HeaderCount::new();
@@ -169,12 +217,35 @@ fn members_unmet<F: LinkFamily>(have: &[u8], want: &[u8], ctx: F::Context) -> Op
             offset: want.len() - rest.len(),
             nla,
         };
-        if !has_one_like::<F>(have, &wanted, ctx) {
-            return Some(Unmet::of_whole(F::FAMILY, &wanted, None));
+        if let Some(unmet) = member_unmet::<F>(have, &wanted, ctx, from) {
+            return Some(unmet);
         }
         rest = after;
     }
     None
+}
+
+/// This attribute of a set, if it is at the offset `from` or after it and none of the set `have`
+/// meets it.
+fn member_unmet<F: LinkFamily>(
+    have: &[u8],
+    wanted: &PlacedNla<'_>,
+    ctx: F::Context,
+    from: usize,
+) -> Option<Unmet>
+    requires have { IsOk (values (F.meaning ctx) (nla_items have.now)) }
+    requires want { IsOk (F.meaning ctx wanted.now.nla) }
+    requires room { end_of wanted.now < 2 ^ 64 }
+    ensures unmet { result
+        ≡ first_at from
+        (members_unmets F.FAMILY (F.alike ctx) (attributes_of have.now) (wanted.now ∷ [])) }
+    ensures within { IfSome result (IsUnmetWithin (end_of wanted.now) 0) }
+{
+    if wanted.offset < from || has_one_like::<F>(have, wanted, ctx) {
+        None
+    } else {
+        Some(Unmet::of_whole(F::FAMILY, wanted, None))
+    }
 }
 
 /// Whether an attribute of the list `have` meets this one, and has its type.
@@ -209,13 +280,20 @@ fn is_like<F: LinkFamily>(have: &NlaBuffer<'_>, want: &NlaBuffer<'_>, ctx: F::Co
         && (have.value() == want.value() || F::same_value(have, want, ctx, &mut HeaderCount::new()))
 }
 
-/// The first attribute of `want` that the last one of its type in `have` does not meet.
-fn lasts_unmet<F: LinkFamily>(have: &[u8], want: &[u8], ctx: F::Context) -> Option<Unmet>
+/// The first attribute of `want`, at the offset `from` or after it, that the last one of its type
+/// in `have` does not meet.
+fn lasts_unmet<F: LinkFamily>(
+    have: &[u8],
+    want: &[u8],
+    ctx: F::Context,
+    from: usize,
+) -> Option<Unmet>
     requires have { IsOk (values (F.meaning ctx) (nla_items have.now)) }
     requires want { IsOk (values (F.meaning ctx) (nla_items want.now)) }
     ensures unmet { result
         ≡ lasts_unmet
-        (found_unmet F.FAMILY (attribute_unmet (F.contents ctx) F.FAMILY (F.alike ctx)))
+        (λ found p. first_at from
+        (found_unmets F.FAMILY (attribute_unmets (F.contents ctx) F.FAMILY (F.alike ctx)) found p))
         (attributes_of have.now) (attributes_of want.now) }
     ensures within { IfSome result (IsUnmetWithin (length want.now) (length have.now)) }
 {
@@ -223,26 +301,28 @@ fn lasts_unmet<F: LinkFamily>(have: &[u8], want: &[u8], ctx: F::Context) -> Opti
     let mut first = None;
     let mut block = 0;
     while block < end {
-        first = earlier(first, unmet_from::<F>(have, want, block, ctx));
+        first = earlier(first, unmet_of_types::<F>(have, want, block, ctx, from));
         block += INDEXED;
     }
     Some(first?.unmet)
 }
 
-/// The first attribute of `want` that `have` does not meet, among those of `INDEXED` types from
-/// `start` on.
-fn unmet_from<F: LinkFamily>(
+/// The first attribute of `want`, at the offset `from` or after it, that `have` does not meet,
+/// among those of `INDEXED` types from `start` on.
+fn unmet_of_types<F: LinkFamily>(
     have: &[u8],
     want: &[u8],
     start: u16,
     ctx: F::Context,
+    from: usize,
 ) -> Option<UnmetAt>
     requires have { IsOk (values (F.meaning ctx) (nla_items have.now)) }
     requires want { IsOk (values (F.meaning ctx) (nla_items want.now)) }
     ensures unmet { result
         ≡ first_told (covers start)
         (counted_unmet
-        (found_unmet F.FAMILY (attribute_unmet (F.contents ctx) F.FAMILY (F.alike ctx)))
+        (λ found p. first_at from
+        (found_unmets F.FAMILY (attribute_unmets (F.contents ctx) F.FAMILY (F.alike ctx)) found p))
         (attributes_of have.now) (attributes_of want.now)) (attributes_of want.now) }
     ensures within { IfSome result
         (λ told. IsUnmetWithin (length want.now) (length have.now) told.unmet) }
@@ -257,7 +337,7 @@ fn unmet_from<F: LinkFamily>(
         let kind = placed.nla.kind();
         if wanted.offset(kind) == Some(offset) {
             let last = found.find(kind);
-            if let Some(unmet) = found_unmet::<F>(&last, &placed, ctx) {
+            if let Some(unmet) = found_unmet::<F>(&last, &placed, ctx, from) {
                 return Some(UnmetAt { offset, unmet });
             }
         }
@@ -266,12 +346,14 @@ fn unmet_from<F: LinkFamily>(
     None
 }
 
-/// What of an attribute the one of its type that was found, if one was, does not meet.
+/// What of an attribute the one of its type that was found, if one was, does not meet, at the
+/// offset `from` or after it. An attribute that ends before that is not looked at.
 #[inline]
 fn found_unmet<F: LinkFamily>(
     have: &Option<PlacedNla<'_>>,
     want: &PlacedNla<'_>,
     ctx: F::Context,
+    from: usize,
 ) -> Option<Unmet>
     requires have { IfSome have.now (λ p. IsOk (F.meaning ctx p.nla)) }
     requires want { IsOk (F.meaning ctx want.now.nla) }
@@ -279,14 +361,19 @@ fn found_unmet<F: LinkFamily>(
     requires have_room { IfSome have.now (λ p. end_of p < 2 ^ 64) }
     requires want_room { end_of want.now < 2 ^ 64 }
     ensures unmet { result
-        ≡ found_unmet F.FAMILY (attribute_unmet (F.contents ctx) F.FAMILY (F.alike ctx)) have.now
-        want.now }
+        ≡ first_at from
+        (found_unmets F.FAMILY (attribute_unmets (F.contents ctx) F.FAMILY (F.alike ctx)) have.now
+        want.now) }
     ensures within { IfSome result
         (λ u. IsUnmetWithin (end_of want.now) (end_of_found have.now) u) }
 {
+    let end = want.offset + want.nla.length() as usize;
+    if end <= from {
+        return None;
+    }
     match have {
-        Some(found) => F::unmet(found, want, ctx),
-        None => Some(Unmet::of_whole(F::FAMILY, want, None)),
+        Some(found) => F::unmet(found, want, ctx, from),
+        None => Unmet::of_whole_from(F::FAMILY, want, None, from),
     }
 }
 

@@ -754,7 +754,8 @@ fn told_unmet(unmet: Option<Unmet>) -> Option<NotMet> {
     Some((it.family, it.kind, it.want, it.have))
 }
 
-/// Asserts what an accepted list does not meet of an accepted request.
+/// Asserts what an accepted list does not meet of an accepted request, from its beginning on, and
+/// from the attribute that is not met on.
 fn does_not_meet<F: LinkFamily>(
     rt: &impl Abort,
     ctx: F::Context,
@@ -764,8 +765,12 @@ fn does_not_meet<F: LinkFamily>(
 ) {
     is_accepted::<F>(rt, ctx, have);
     is_accepted::<F>(rt, ctx, want);
-    let told = told_unmet(list_unmet::<F>(have, want, ctx));
+    let told = told_unmet(list_unmet::<F>(have, want, ctx, 0));
     assert_is(rt, ("unmet", have, want), told, wanted);
+    if let Some((_, _, place, _)) = wanted {
+        let told = told_unmet(list_unmet::<F>(have, want, ctx, place));
+        assert_is(rt, ("unmet from there", have, want), told, wanted);
+    }
 }
 
 /// Asserts of each accepted list and request what the list does not meet of the request.

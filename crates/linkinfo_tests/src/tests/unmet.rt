@@ -156,7 +156,7 @@ fn unmet_of<P, F: PayloadFamily<P>>(
     let _name = family.listing().expect(rt, "a list");
     check_payload::<P, F>(family, have, &mut HeaderCount::new()).expect(rt, "accepted");
     check_payload::<P, F>(family, want, &mut HeaderCount::new()).expect(rt, "accepted");
-    list_unmet::<P, F>(family, have, want)
+    list_unmet::<P, F>(family, have, want, 0)
 }
 
 /// Asserts what is not met in a case, of a family.

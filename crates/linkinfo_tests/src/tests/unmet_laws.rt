@@ -1,7 +1,7 @@
 //! Lists that meet themselves, lists with more attributes, equivalent lists, and other orders.
 
 use super::assertions::{assert_equal, bytes_of};
-use linkinfo::{Bytes, Family, Unmet, first_unmet, same, unmet_laws};
+use linkinfo::{Bytes, Family, Unmet, first_unmet, same, unmet, unmet_laws};
 use std::process::Abort;
 
 /// A vxlan link with the VNI 42 and a TTL of 64.
@@ -42,9 +42,12 @@ fn each_list_meets_itself(rt: HostRuntime) {
     let alloc = rt.alloc();
     unmet_laws::met_by_last::<Bytes>();
     unmet_laws::met_by_itself::<Bytes>();
+    unmet_laws::all_unmet::<Bytes>();
     for text in LISTS {
         let bytes = bytes_of(&rt, alloc, text);
         assert_met(&rt, &bytes, &bytes);
+        let mut unmets = unmet(&bytes, &bytes).expect(&rt, "accepted");
+        assert_equal(&rt, text, &unmets.next(), &None);
     }
 }
 

@@ -1,19 +1,8 @@
-use Rattle.std.proofs.Common.{ap, subst, sym, ◌∙◌}
-use Rattle.linkinfo.specs.Strings.{reading}
-use Rattle.linkinfo.specs.Unmet.{strings_unmet}
-use Rattle.linkinfo_data.specs.BytesLayer.{bytes_layer}
-use Rattle.linkinfo_c.specs.Causes.{IsReturnedCode}
-use Rattle.linkinfo_c.specs.Unmet.{unmet_record}
-use Rattle.linkinfo_c.specs.declared.unmet.LinkinfoUnmet.{LinkinfoUnmet}
 use Rattle.linkinfo_c.proofs.CausingBytes.{bytes_errors}
 use Rattle.linkinfo_c.proofs.CausingData.{unmet_code}
 use Rattle.linkinfo_c.proofs.unmet.linkinfo_first_unmet_opaque.Goals as goal
 
 pub returns-clause-cause : goal.returns-clause-cause
 returns-clause-cause c =
-    let have = c.args.have.now in
-    let want = c.args.want.now in
-    subst (λ (z : LinkinfoUnmet). IsReturnedCode z.error.cause)
-    (sym (c.unmet_record.ensures ∙ ap unmet_record c.first_unmet.ensures.answer))
-    (unmet_code (reading bytes_layer have) (reading bytes_layer want)
-    (strings_unmet bytes_layer have want) (bytes_errors have) (bytes_errors want))
+    unmet_code _ _ _ _ _ c.first_unmet.ensures.answer c.unmet_record.ensures
+    (bytes_errors c.args.have.now) (bytes_errors c.args.want.now)

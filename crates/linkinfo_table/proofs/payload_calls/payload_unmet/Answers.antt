@@ -3,7 +3,7 @@ use Rattle.std.specs.Str.{bytes_eq}
 use Rattle.nla_frame.specs.Attribute.{masked}
 use Rattle.nla_frame.specs.declared.error.Family.{Family}
 use Rattle.linkinfo_table.specs.TypedRows.{row_compares, row_means}
-use Rattle.linkinfo_table.specs.Unmet.{payload_unmet}
+use Rattle.linkinfo_table.specs.Unmets.{first_at, payload_unmets}
 use Rattle.linkinfo_table.proofs.RowPayloads.{accepted, same_type}
 use Rattle.linkinfo_table.proofs.payload_calls.payload_unmet.Goals as goal
 
@@ -39,7 +39,10 @@ returns-clause-unmet g c =
     (c.requires.same_type ∙ c.requires.row) (g.met.R.PayloadRow.row_is c.args.ctx) want.nla)
     (sym c.requires.same_type) in
     c.unmet.ensures.unmet
-    ∙ ap (λ (f : Family). payload_unmet payload.contents f (equal || alike) have want)
+    ∙ ap (λ (f : Family).
+    first_at c.args.from (payload_unmets payload.contents f (equal || alike) have want))
     c.FAMILY.ensures
-    ∙ ap (λ (r : Bool). payload_unmet payload.contents g.F.RowFamily.FAMILY (equal || r) have want)
+    ∙ ap (λ (r : Bool).
+    first_at c.args.from
+    (payload_unmets payload.contents g.F.RowFamily.FAMILY (equal || r) have want))
     same

@@ -1,21 +1,18 @@
 use Rattle.std.specs.Prelude.{IfSome}
-use Rattle.std.proofs.Common.{◌≡◌, ◌-◌, length, nat_lt}
+use Rattle.std.proofs.Common.{◌≡◌, ◌-◌, length, nat_lt, Option}
 use Rattle.linkinfo_table.specs.Last.{attributes_of}
-use Rattle.linkinfo_table.specs.Unmet.{
-  IsUnmetWithin,
-  attribute_unmet,
-  counted_unmet,
-  first_told,
-  found_unmet,
-}
+use Rattle.linkinfo_table.specs.Unmet.{IsUnmetWithin, counted_unmet, first_told}
+use Rattle.linkinfo_table.specs.Unmets.{attribute_unmets, first_at, found_unmets}
+use Rattle.linkinfo_table.specs.declared.last.PlacedNla.{PlacedNla}
 use Rattle.linkinfo_table.proofs.unmet.lasts_unmet.Given as goal
 
 abbrev pub invariant-loop-block : goal.invariant-loop-block
 invariant-loop-block g l =
     let family = g.F.LinkFamily in
     let unmet =
-    found_unmet family.FAMILY
-    (attribute_unmet (family.contents l.ctx) family.FAMILY (family.alike l.ctx)) in
+    λ (found : Option PlacedNla) (p : PlacedNla). first_at l.from
+    (found_unmets family.FAMILY
+    (attribute_unmets (family.contents l.ctx) family.FAMILY (family.alike l.ctx)) found p) in
     record {
       first :
           l.first

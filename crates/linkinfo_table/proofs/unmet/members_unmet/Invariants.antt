@@ -1,17 +1,20 @@
 use Rattle.std.specs.Prelude.{IsOk}
 use Rattle.std.specs.List.{AllByRecursion}
-use Rattle.std.proofs.Common.{◌≡◌, ◌*◌, ◌+◌, ◌≤◌, length}
+use Rattle.std.proofs.Common.{◌≡◌, ◌*◌, ◌+◌, ◌≤◌, length, List}
 use Rattle.nla_frame.specs.NlaItems.{nla_items}
 use Rattle.linkinfo_table.specs.Last.{StandsIn, attributes_of}
 use Rattle.linkinfo_table.specs.Lists.{values}
-use Rattle.linkinfo_table.specs.Unmet.{members_unmet}
+use Rattle.linkinfo_table.specs.Unmets.{first_at, members_unmets}
+use Rattle.linkinfo_table.specs.declared.last.PlacedNla.{PlacedNla}
 use Rattle.linkinfo_table.proofs.Lasts.{left_of}
 use Rattle.linkinfo_table.proofs.unmet.members_unmet.Given as goal
 
 abbrev pub invariant-loop-nla : goal.invariant-loop-nla
 invariant-loop-nla g l =
     let family = g.F.LinkFamily in
-    let unmet = members_unmet family.FAMILY (family.alike l.ctx) (attributes_of l.have) in
+    let unmet =
+    λ (list : List PlacedNla). first_at l.from
+    (members_unmets family.FAMILY (family.alike l.ctx) (attributes_of l.have) list) in
     record {
       accepted : IsOk (values (family.meaning l.ctx) (nla_items l.rest));
       stand : AllByRecursion (StandsIn l.want) (left_of l.want l.rest);
