@@ -13,7 +13,7 @@ from . import seen
 DRAWN = 48
 OF_A_CRATE = 24
 # CPU minutes that a landing has for mutants.
-MINUTES = 15
+MINUTES = 10
 # CPU seconds of a check before its first goal, and those of a mutant, over all crates.
 FIRST_CHECK = 25
 A_MUTANT = 6
