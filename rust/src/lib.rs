@@ -61,9 +61,10 @@
 //!   [`LinkInfoWalk`] borrows them. [`nlas_fit_len`] and [`emit_nlas`] write into a buffer.
 //! - **Validating and comparing encodings**: [`check`], [`check_at`], [`same`], [`same_at`],
 //!   [`first_unmet`], [`next_unmet`] and the iterator [`unmet`] with [`Unmet`],
-//!   [`first_difference`] with [`Difference`], [`canon`] and [`canon_into`]. [`attribute_at`] is the
-//!   attribute that one of their offsets points to. Those that end in `_of` take another layer, such
-//!   as another type of peer, and those with `counted` a [`HeaderCount`] for the headers examined.
+//!   [`first_difference`] with [`Difference`], [`canon`] and [`canon_into`]. [`attribute_at`] is
+//!   the attribute that one of their offsets points to. Those that end in `_of` take another layer,
+//!   such as another type of peer, and those with `counted` a [`HeaderCount`] for the headers
+//!   examined.
 //! - **Errors**: [`DecodeError`] has a [`Family`], a type and a [`Cause`]. [`ErrorAt`] adds the
 //!   offset, and is displayed as a sentence, as [`Explanation`] is. [`ErrorIn`] says which of two
 //!   lists has the error; [`ErrorIn::at`] adds the offset. [`ToVecError`], [`CanonError`] and
