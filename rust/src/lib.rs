@@ -4,8 +4,8 @@
 //! - [`VecLinkInfo::parse`] parses a list, or returns the first error; [`VecLinkInfo::to_vec`]
 //!   writes its one canonical encoding.
 //! - [`check`] and [`same`] validate and compare encodings without allocating memory.
-//! - [`first_unmet`] returns the first attribute of a request that a link does not meet, and
-//!   [`first_difference`] where two lists differ first.
+//! - [`first_unmet`] returns the first attribute of a request that a link does not meet, [`unmet`]
+//!   iterates over all of them, and [`first_difference`] returns where two lists differ first.
 //! - [`canon`] and [`canon_into`] write the canonical encoding of the list that an encoding means.
 //! - [`LinkInfoWalk`] iterates over the borrowed attributes.
 //! - [`messages`] finds link info in the bytes of a netlink socket, and in captures of it.
@@ -60,10 +60,11 @@
 //!   [`LinkXstats`]. [`Nlas`], [`Bytes`], [`Text`] and [`DefaultNla`] are what they own.
 //!   [`LinkInfoWalk`] borrows them. [`nlas_fit_len`] and [`emit_nlas`] write into a buffer.
 //! - **Validating and comparing encodings**: [`check`], [`check_at`], [`same`], [`same_at`],
-//!   [`first_unmet`] with [`Unmet`], [`first_difference`] with [`Difference`], [`canon`] and
-//!   [`canon_into`]. [`attribute_at`] is the attribute that one of their offsets points to. Those
-//!   that end in `_of` take another layer, such as another type of peer, and those with `counted` a
-//!   [`HeaderCount`] for the headers examined.
+//!   [`first_unmet`], [`next_unmet`] and the iterator [`unmet`] with [`Unmet`],
+//!   [`first_difference`] with [`Difference`], [`canon`] and [`canon_into`]. [`attribute_at`] is
+//!   the attribute that one of their offsets points to. Those that end in `_of` take another layer,
+//!   such as another type of peer, and those with `counted` a [`HeaderCount`] for the headers
+//!   examined.
 //! - **Errors**: [`DecodeError`] has a [`Family`], a type and a [`Cause`]. [`ErrorAt`] adds the
 //!   offset, and is displayed as a sentence, as [`Explanation`] is. [`ErrorIn`] says which of two
 //!   lists has the error; [`ErrorIn::at`] adds the offset. [`ToVecError`], [`CanonError`] and
@@ -152,12 +153,13 @@ pub use layers::numbers::{
 #[doc(inline)]
 pub use layers::data::{Difference, Unmet};
 #[doc(inline)]
-pub use layers::link::{AttributeAt, attribute_at};
+pub use layers::link::{AttributeAt, UnmetAttributes, attribute_at};
 #[doc(inline)]
 pub use layers::link::{
     canon, canon_into, canon_into_of, canon_of, check, check_at, check_at_of, check_counted,
     check_counted_of, check_of, first_difference, first_difference_of, first_unmet, first_unmet_of,
-    same, same_at, same_at_of, same_counted, same_counted_of, same_of,
+    next_unmet, next_unmet_of, same, same_at, same_at_of, same_counted, same_counted_of, same_of,
+    unmet,
 };
 #[doc(inline)]
 pub use layers::nla_frame::HeaderCount;

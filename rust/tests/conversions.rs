@@ -5,7 +5,7 @@ use linkinfo::messages::{Capture, CaptureFormat, LinkMessages};
 use linkinfo::{
     Bytes, Cause, DecodeError, Family, GreIOFlags, InfoData, InfoKind, InfoVxlan, Ip6TunnelFlags,
     IpVlanFlags, LinkInfo, LinkInfoWalk, Nlas, RmNetFlags, Text, ToVecError, VecLinkInfo, check,
-    check_at, first_unmet,
+    check_at, first_unmet, unmet,
 };
 use std::error::Error;
 
@@ -88,13 +88,18 @@ fn errors_are_displayed() {
     assert_eq!(capture.to_string(), "capture file: its header is cut short");
 }
 
-/// A walk yields each attribute, and the other iterators one error; then each stays at its end.
+/// A walk yields each attribute, what is not met too, and the other iterators one error; then each
+/// stays at its end.
 #[test]
 fn iterators_are_fused() {
     let mut walk = LinkInfoWalk::new(&VXLAN);
     let places: Vec<usize> = walk.by_ref().map(|item| item.unwrap().place).collect();
     assert_eq!(places, [0, 12]);
     assert_eq!((walk.next(), walk.next()), (None, None));
+    let mut all = unmet(&[], &VXLAN).unwrap();
+    let places: Vec<usize> = all.by_ref().map(|unmet| unmet.want).collect();
+    assert_eq!(places, [0, 12]);
+    assert_eq!((all.next(), all.next()), (None, None));
     let mut links = LinkMessages::new(&[0; 15]);
     assert!(links.next().is_some_and(|link| link.is_err()));
     assert_eq!((links.next(), links.next()), (None, None));

@@ -3,12 +3,13 @@
 //! from the format: numbers and names of include/uapi/linux/if_link.h, and offsets counted in the
 //! bytes.
 
+use linkinfo::typed::{InfoVlan, VlanQosMapping};
 use linkinfo::{
     Bytes, Cause, DecodeError, Difference, ErrorAt, ErrorIn, Family, Flags, GreIOFlags,
-    HeaderCount, InfoData, InfoKind, InfoPortData, InfoPortKind, InfoVrf, InfoVrfPort, KindTag,
-    LinkInfo, Nlas, PortTag, Text, Unmet, VecLinkInfo, VxlanDf, check_at, check_counted, emit_nlas,
-    first_difference, first_unmet, nlas_fit_len, port_tag_of_name, same_at, same_counted,
-    tag_of_name,
+    HeaderCount, InfoData, InfoKind, InfoPortData, InfoPortKind, InfoVrf, InfoVrfPort, InfoVxlan,
+    KindTag, LinkInfo, Nlas, PortTag, Text, Unmet, UnmetAttributes, VecLinkInfo, VxlanDf, check_at,
+    check_counted, emit_nlas, first_difference, first_unmet, next_unmet, nlas_fit_len,
+    port_tag_of_name, same_at, same_counted, tag_of_name, typed, unmet,
 };
 use std::collections::{BTreeSet, HashSet};
 use std::hash::{DefaultHasher, Hash, Hasher};
@@ -42,6 +43,74 @@ fn unmet_is_a_sentence() {
             "type 9 of vrf at offset 12 is not met: there is none",
         ]
     );
+}
+
+/// A vxlan link, as a kernel returns it, beside what is wanted of it.
+#[test]
+fn all_that_a_link_does_not_meet() {
+    let reply = [
+        10, 0, 1, 0, b'v', b'x', b'l', b'a', b'n', 0, 0, 0, // IFLA_INFO_KIND "vxlan"
+        36, 0, 2, 0, // IFLA_INFO_DATA
+        8, 0, 1, 0, 42, 0, 0, 0, // at 16, IFLA_VXLAN_ID 42
+        5, 0, 5, 0, 64, 0, 0, 0, // at 24, IFLA_VXLAN_TTL 64
+        5, 0, 7, 0, 1, 0, 0, 0, // at 32, IFLA_VXLAN_LEARNING 1
+        6, 0, 15, 0, 0x12, 0xb5, 0, 0, // at 40, IFLA_VXLAN_PORT 4789
+    ];
+    let data = [
+        InfoVxlan::Port(4790), // at 16
+        InfoVxlan::Id(42),     // at 24
+        InfoVxlan::Ttl(1),     // at 32
+        InfoVxlan::Gbp,        // at 40, IFLA_VXLAN_GBP (23), a flag
+    ];
+    let list = [
+        LinkInfo::Kind(InfoKind::Vxlan),
+        LinkInfo::Data(InfoData::Vxlan(data.into())),
+    ];
+    let wanted = VecLinkInfo::from(list).to_vec().unwrap();
+    let at = |kind, want, have| Unmet {
+        family: Family::Vxlan,
+        kind,
+        want,
+        have,
+    };
+    let expected = [at(15, 16, Some(40)), at(5, 32, Some(24)), at(23, 40, None)];
+    let found: Vec<Unmet> = unmet(&reply, &wanted).unwrap().collect();
+    assert_eq!(found, expected);
+    assert_eq!(next_unmet(&reply, &wanted, 17), Ok(Some(expected[1])));
+    let texts = found.iter().map(Unmet::to_string);
+    assert_eq!(
+        texts.collect::<Vec<_>>(),
+        [
+            "IFLA_VXLAN_PORT at offset 16 is not met by that at offset 40",
+            "IFLA_VXLAN_TTL at offset 32 is not met by that at offset 24",
+            "IFLA_VXLAN_GBP at offset 40 is not met: there is none",
+        ]
+    );
+}
+
+/// Of the mappings of a VLAN, those that the link has not, over the typed layer; else all of them.
+#[test]
+fn all_mappings_that_a_vlan_does_not_meet() {
+    let reply = [
+        9, 0, 1, 0, b'v', b'l', b'a', b'n', 0, 0, 0, 0, // IFLA_INFO_KIND "vlan"
+        28, 0, 2, 0, // IFLA_INFO_DATA
+        6, 0, 1, 0, 7, 0, 0, 0, // at 16, IFLA_VLAN_ID 7
+        16, 0, 3, 0, // at 24, IFLA_VLAN_EGRESS_QOS
+        12, 0, 1, 0, 1, 0, 0, 0, 5, 0, 0, 0, // at 28, IFLA_VLAN_QOS_MAPPING 1 to 5
+    ];
+    let mappings = [(0, 4), (1, 5), (2, 6)].map(VlanQosMapping::Mapping);
+    let data = [InfoVlan::EgressQos(mappings.into()), InfoVlan::Id(8)];
+    let list = [
+        typed::LinkInfo::Kind(InfoKind::Vlan),
+        typed::LinkInfo::Data(typed::InfoData::Vlan(data.into())),
+    ];
+    let wanted = typed::VecLinkInfo::from(list).to_vec().unwrap();
+    let places = |all: UnmetAttributes| -> Vec<_> { all.map(|it| (it.want, it.have)).collect() };
+    // IFLA_VLAN_EGRESS_QOS at 16, its mappings at 20, 32 and 44, and IFLA_VLAN_ID at 56.
+    let found = places(typed::unmet(&reply, &wanted).unwrap());
+    assert_eq!(found, [(20, None), (44, None), (56, Some(16))]);
+    let found = places(unmet(&reply, &wanted).unwrap());
+    assert_eq!(found, [(16, Some(24)), (56, Some(16))]);
 }
 
 #[test]

@@ -133,6 +133,30 @@ unsafe extern "C" fn linkinfo_first_unmet_opaque(
 }
 
 #[unsafe(no_mangle)]
+unsafe extern "C" fn linkinfo_next_unmet(
+    have: *const u8,
+    have_length: usize,
+    want: *const u8,
+    want_length: usize,
+    from: usize,
+) -> LinkinfoUnmet {
+    let have = unsafe { slice(have, have_length) };
+    unmet::linkinfo_next_unmet(have, unsafe { slice(want, want_length) }, from)
+}
+
+#[unsafe(no_mangle)]
+unsafe extern "C" fn linkinfo_next_unmet_opaque(
+    have: *const u8,
+    have_length: usize,
+    want: *const u8,
+    want_length: usize,
+    from: usize,
+) -> LinkinfoUnmet {
+    let have = unsafe { slice(have, have_length) };
+    unmet::linkinfo_next_unmet_opaque(have, unsafe { slice(want, want_length) }, from)
+}
+
+#[unsafe(no_mangle)]
 unsafe extern "C" fn linkinfo_count(bytes: *const u8, length: usize) -> LinkinfoCount {
     check::linkinfo_count(unsafe { slice(bytes, length) })
 }

@@ -7,7 +7,7 @@ use linkinfo_c::calls::canon::{LinkinfoCanon, linkinfo_canon, linkinfo_canon_opa
 use linkinfo_c::calls::check::{
     LinkinfoCount, LinkinfoErrorAt, LinkinfoInnerError, LinkinfoSame, linkinfo_check,
     linkinfo_check_at, linkinfo_check_inner, linkinfo_check_inner_opaque, linkinfo_count,
-    linkinfo_same, linkinfo_same_opaque,
+    linkinfo_count_opaque, linkinfo_same, linkinfo_same_opaque,
 };
 use linkinfo_c::calls::difference::{
     LinkinfoDifference, linkinfo_first_difference, linkinfo_first_difference_opaque,
@@ -18,14 +18,20 @@ use linkinfo_c::calls::messages::{
     LinkinfoLink, LinkinfoMessageError, linkinfo_message_error_text, linkinfo_next_link,
 };
 use linkinfo_c::calls::texts::linkinfo_error_text;
-use linkinfo_c::calls::unmet::{LinkinfoUnmet, linkinfo_first_unmet, linkinfo_first_unmet_opaque};
-use linkinfo_c::calls::values::{LinkinfoValue, LinkinfoValuedAttribute, linkinfo_values};
+use linkinfo_c::calls::unmet::{
+    LinkinfoUnmet, linkinfo_first_unmet, linkinfo_first_unmet_opaque, linkinfo_next_unmet,
+    linkinfo_next_unmet_opaque,
+};
+use linkinfo_c::calls::values::{
+    LinkinfoPlacedValue, LinkinfoValue, LinkinfoValuedAttribute, linkinfo_value_at, linkinfo_values,
+};
 
 mod c {
     use super::{
         LinkinfoAttribute, LinkinfoCanon, LinkinfoCount, LinkinfoDifference, LinkinfoError,
         LinkinfoErrorAt, LinkinfoInnerError, LinkinfoItem, LinkinfoLink, LinkinfoListResult,
-        LinkinfoMessageError, LinkinfoSame, LinkinfoUnmet, LinkinfoValuedAttribute,
+        LinkinfoMessageError, LinkinfoPlacedValue, LinkinfoSame, LinkinfoUnmet,
+        LinkinfoValuedAttribute,
     };
 
     unsafe extern "C" {
@@ -70,6 +76,7 @@ mod c {
             buffer_length: usize,
         ) -> LinkinfoCanon;
         pub fn linkinfo_count(bytes: *const u8, length: usize) -> LinkinfoCount;
+        pub fn linkinfo_count_opaque(bytes: *const u8, length: usize) -> LinkinfoCount;
         pub fn linkinfo_items(
             bytes: *const u8,
             length: usize,
@@ -95,6 +102,25 @@ mod c {
             want: *const u8,
             want_length: usize,
         ) -> LinkinfoUnmet;
+        pub fn linkinfo_next_unmet(
+            have: *const u8,
+            have_length: usize,
+            want: *const u8,
+            want_length: usize,
+            from: usize,
+        ) -> LinkinfoUnmet;
+        pub fn linkinfo_next_unmet_opaque(
+            have: *const u8,
+            have_length: usize,
+            want: *const u8,
+            want_length: usize,
+            from: usize,
+        ) -> LinkinfoUnmet;
+        pub fn linkinfo_value_at(
+            bytes: *const u8,
+            length: usize,
+            offset: usize,
+        ) -> LinkinfoPlacedValue;
         pub fn linkinfo_values(
             bytes: *const u8,
             length: usize,
@@ -171,6 +197,8 @@ pub fn compare(random: &mut Random, bytes: &[u8], second: &[u8]) {
         c::linkinfo_first_unmet(start, length, second.as_ptr(), second.len())
     });
     opaque(bytes, second);
+    next_unmets(random, bytes, second);
+    value_at(random, bytes);
     canonical(random, bytes);
     texts(random, error);
     items(random, bytes);
@@ -238,6 +266,9 @@ fn opaque(bytes: &[u8], second: &[u8]) {
     assert_eq!(linkinfo_first_unmet_opaque(bytes, second), unsafe {
         c::linkinfo_first_unmet_opaque(start, length, second.as_ptr(), second.len())
     });
+    assert_eq!(linkinfo_count_opaque(bytes), unsafe {
+        c::linkinfo_count_opaque(start, length)
+    });
     let mut ours = vec![0xa5; ROOM];
     let mut theirs = ours.clone();
     let result = linkinfo_canon_opaque(bytes, &mut ours);
@@ -245,6 +276,41 @@ fn opaque(bytes: &[u8], second: &[u8]) {
         c::linkinfo_canon_opaque(start, length, theirs.as_mut_ptr(), ROOM)
     });
     assert_eq!(ours, theirs);
+}
+
+/// What of the request is not met from an offset on, and from there one after another.
+fn next_unmets(random: &mut Random, bytes: &[u8], second: &[u8]) {
+    let (start, length) = (bytes.as_ptr(), bytes.len());
+    let (request, room) = (second.as_ptr(), second.len());
+    let any = random.below(room + 8);
+    for mut from in [0, any, usize::MAX] {
+        loop {
+            let unmet = linkinfo_next_unmet(bytes, second, from);
+            assert_eq!(unmet, unsafe {
+                c::linkinfo_next_unmet(start, length, request, room, from)
+            });
+            assert_eq!(linkinfo_next_unmet_opaque(bytes, second, from), unsafe {
+                c::linkinfo_next_unmet_opaque(start, length, request, room, from)
+            });
+            if unmet.rejected != 0 || unmet.met {
+                break;
+            }
+            from = unmet.want + 1;
+        }
+    }
+}
+
+/// The attribute at any offset, at that of each attribute of the list, and next to its header.
+fn value_at(random: &mut Random, bytes: &[u8]) {
+    let mut items = vec![NO_ITEM; bytes.len() / 4];
+    let found = linkinfo_items(bytes, &mut items);
+    let places = items[..found.count].iter().map(|item| item.place);
+    let any = random.below(bytes.len() + 8);
+    for offset in places.flat_map(|place| [place, place + 4]).chain([any]) {
+        assert_eq!(linkinfo_value_at(bytes, offset), unsafe {
+            c::linkinfo_value_at(bytes.as_ptr(), bytes.len(), offset)
+        });
+    }
 }
 
 fn canonical(random: &mut Random, bytes: &[u8]) {

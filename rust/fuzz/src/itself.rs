@@ -7,8 +7,8 @@ use linkinfo::layers::link::{
 };
 use linkinfo::{
     CanonError, CanonIntoError, DecodeError, ErrorIn, InfoData, InfoKind, InfoPortData,
-    InfoPortKind, LinkInfo, LinkInfoWalk, VecLinkInfo, canon, canon_into, check, check_at, same,
-    same_at,
+    InfoPortKind, LinkInfo, LinkInfoWalk, Unmet, UnmetAttributes, VecLinkInfo, attribute_at, canon,
+    canon_into, check, check_at, first_unmet, next_unmet, same, same_at, typed, unmet,
 };
 use std::fmt::Debug;
 
@@ -26,6 +26,7 @@ pub fn compare(random: &mut Random, bytes: &[u8], second: &[u8]) -> Seen {
     let verdict = check(bytes);
     verdicts(bytes, verdict);
     let compared = comparisons(bytes, second);
+    unmets(random, bytes, second);
     let encoding = encodings(random, bytes);
     if let Ok(list) = VecLinkInfo::parse(bytes) {
         assert_eq!(list, list.clone());
@@ -124,6 +125,53 @@ fn comparisons(bytes: &[u8], second: &[u8]) -> Result<bool, DecodeError> {
     assert_eq!(same_counted(bytes, second, &mut headers), compared);
     assert!(2 * headers.get() <= bytes.len() + second.len());
     compared
+}
+
+/// The calls that tell what of the second list the first does not meet, over both layers.
+fn unmets(random: &mut Random, bytes: &[u8], second: &[u8]) {
+    let from = random.below(second.len() + 8);
+    let first = first_unmet(bytes, second);
+    assert_eq!(first.is_err(), same(bytes, second).is_err());
+    unmets_agree(unmet(bytes, second), first, second, from, |from| {
+        next_unmet(bytes, second, from)
+    });
+    let first = typed::first_unmet(bytes, second);
+    assert_eq!(first.is_err(), typed::same(bytes, second).is_err());
+    unmets_agree(typed::unmet(bytes, second), first, second, from, |from| {
+        typed::next_unmet(bytes, second, from)
+    });
+}
+
+/// The iterator yields what the calls for the next one return, one after another, at offsets that
+/// increase. The first one is that of the call for it, and the one from any offset on is that of
+/// the iterator.
+fn unmets_agree(
+    all: Result<UnmetAttributes<'_>, ErrorIn>,
+    first: Result<Option<Unmet>, ErrorIn>,
+    want: &[u8],
+    any: usize,
+    next: impl Fn(usize) -> Result<Option<Unmet>, ErrorIn>,
+) {
+    assert_eq!(next(0), first);
+    let mut all = match all {
+        Ok(all) => all,
+        Err(error) => {
+            assert_eq!((first, next(any)), (Err(error), Err(error)));
+            return;
+        }
+    };
+    let mut from = 0;
+    let mut after = None;
+    while let Some(unmet) = next(from).expect("accepted lists") {
+        assert!(from <= unmet.want && unmet.want < want.len());
+        let there = attribute_at(want, unmet.want).expect("an attribute");
+        assert_eq!((there.family, there.nla.kind()), (unmet.family, unmet.kind));
+        assert_eq!(all.next(), Some(unmet));
+        after = after.or((any <= unmet.want).then_some(unmet));
+        from = unmet.want + 1;
+    }
+    assert_eq!((all.next(), all.next()), (None, None));
+    assert_eq!(next(any), Ok(after));
 }
 
 /// The calls that write the canonical encoding; that encoding, where there is one.

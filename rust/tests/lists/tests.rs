@@ -36,6 +36,7 @@ mod streams;
 mod typed;
 mod unmet;
 mod unmet_laws;
+mod unmets;
 mod values;
 mod walks;
 mod worked;

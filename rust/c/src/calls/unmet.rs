@@ -1,10 +1,10 @@
 // @generated from crates/linkinfo_c/src/unmet.rt by rust/c/translate.
 
-//! Whether a link has all attributes of a request, and the first one that it lacks.
+//! Whether a link has all attributes of a request, and those that it lacks, one after another.
 
 use crate::calls::codes::family_code;
 use crate::calls::error::{LinkinfoError, NO_ERROR, error_record};
-use linkinfo::layers::link::{DecodeError, ErrorIn, Unmet, first_unmet, typed};
+use linkinfo::layers::link::{DecodeError, ErrorIn, Unmet, first_unmet, next_unmet, typed};
 
 /// `struct linkinfo_unmet`: whether a link has all attributes of a request, and the first one that
 /// it lacks.
@@ -25,7 +25,8 @@ pub struct LinkinfoUnmet {
     /// The offset in the link's list, in bytes, of the last attribute of that type; 0 if the link
     /// has none.
     pub have: usize,
-    /// Whether all attributes of the request are met; false with an error.
+    /// Whether all attributes of the request are met, of those that are asked for; false with an
+    /// error.
     pub met: bool,
     /// Whether the link has an attribute of that type, at `have`.
     pub is_present: bool,
@@ -89,4 +90,19 @@ pub fn linkinfo_first_unmet(have: &[u8], want: &[u8]) -> LinkinfoUnmet {
 #[must_use]
 pub fn linkinfo_first_unmet_opaque(have: &[u8], want: &[u8]) -> LinkinfoUnmet {
     unmet_record(first_unmet(have, want))
+}
+
+/// Returns the first attribute of the request `want`, at the offset `from` or after it, that the
+/// link's list `have` lacks, or that none is left. With 0 it is what `linkinfo_first_unmet`
+/// returns, and the one after an attribute at `want` is that from `want + 1` on.
+#[must_use]
+pub fn linkinfo_next_unmet(have: &[u8], want: &[u8], from: usize) -> LinkinfoUnmet {
+    unmet_record(typed::next_unmet(have, want, from))
+}
+
+/// Returns what `linkinfo_next_unmet` does, over the layer that keeps attributes of bonds, bridges
+/// and their like verbatim.
+#[must_use]
+pub fn linkinfo_next_unmet_opaque(have: &[u8], want: &[u8], from: usize) -> LinkinfoUnmet {
+    unmet_record(next_unmet(have, want, from))
 }

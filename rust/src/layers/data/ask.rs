@@ -283,14 +283,16 @@ impl<'a> Ask for FindDifference<'a> {
     }
 }
 
-/// The first attribute of an accepted payload that another one does not meet, or `None` if it meets
-/// all of them or payloads are no lists.
+/// The first attribute of an accepted payload, at an offset or after it, that another one does not
+/// meet, or `None` if it meets all of them or payloads are no lists.
 #[derive(Clone, Copy)]
 pub struct FindUnmet<'a> {
     /// The payload that is to meet the other one.
     pub have: &'a [u8],
     /// The payload that is to be met.
     pub want: &'a [u8],
+    /// The offset in that payload, in bytes.
+    pub from: usize,
 }
 
 impl<'a> Ask for FindUnmet<'a> {
@@ -303,7 +305,7 @@ impl<'a> Ask for FindUnmet<'a> {
         _count: &mut HeaderCount,
         _buffer: &mut [u8],
     ) -> Option<Unmet> {
-        list_unmet::<F>(self.have, self.want, ctx)
+        list_unmet::<F>(self.have, self.want, ctx, self.from)
     }
 
     #[inline(always)]

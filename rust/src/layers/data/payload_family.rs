@@ -144,8 +144,8 @@ pub fn list_difference<P, F: PayloadFamily<P>>(
     family.ask(FindDifference { a, b }, &mut HeaderCount::new(), &mut [])
 }
 
-/// Returns the first attribute of `want` that `have` does not meet, of two accepted payloads, or
-/// `None` if it meets all of them.
+/// Returns the first attribute of `want`, at the offset `from` or after it, that `have` does not
+/// meet, of two accepted payloads, or `None` if it meets all of them.
 ///
 /// Of several attributes of a type the last one counts, as in the kernel. It is met where the last
 /// attribute of its type in `have` has an equal payload or is equivalent; flags of the type do not
@@ -163,6 +163,15 @@ pub fn list_difference<P, F: PayloadFamily<P>>(
 /// May panic where a condition of the caller that is named here does not hold. Where it does
 /// not panic then, the result has no meaning.
 #[must_use]
-pub fn list_unmet<P, F: PayloadFamily<P>>(family: F, have: &[u8], want: &[u8]) -> Option<Unmet> {
-    family.ask(FindUnmet { have, want }, &mut HeaderCount::new(), &mut [])
+pub fn list_unmet<P, F: PayloadFamily<P>>(
+    family: F,
+    have: &[u8],
+    want: &[u8],
+    from: usize,
+) -> Option<Unmet> {
+    family.ask(
+        FindUnmet { have, want, from },
+        &mut HeaderCount::new(),
+        &mut [],
+    )
 }

@@ -191,8 +191,8 @@ impl LinkFamily for InfoMacVlan {
         nested_difference::<InfoMacVlan>(a, b, lists)
     }
 
-    fn unmet(have: &PlacedNla<'_>, want: &PlacedNla<'_>, lists: u8) -> Option<Unmet> {
-        nested_unmet::<InfoMacVlan>(have, want, lists)
+    fn unmet(have: &PlacedNla<'_>, want: &PlacedNla<'_>, lists: u8, from: usize) -> Option<Unmet> {
+        nested_unmet::<InfoMacVlan>(have, want, lists, from)
     }
 }
 

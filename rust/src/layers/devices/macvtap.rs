@@ -191,8 +191,8 @@ impl LinkFamily for InfoMacVtap {
         nested_difference::<InfoMacVtap>(a, b, lists)
     }
 
-    fn unmet(have: &PlacedNla<'_>, want: &PlacedNla<'_>, lists: u8) -> Option<Unmet> {
-        nested_unmet::<InfoMacVtap>(have, want, lists)
+    fn unmet(have: &PlacedNla<'_>, want: &PlacedNla<'_>, lists: u8, from: usize) -> Option<Unmet> {
+        nested_unmet::<InfoMacVtap>(have, want, lists, from)
     }
 }
 

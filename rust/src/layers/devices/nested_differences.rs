@@ -112,8 +112,8 @@ fn pair_difference<F: NestedFamily>(
 }
 
 /// What of the attribute `want` the attribute `have` of its type, both inside `lists` lists, does
-/// not meet: all of it, if the payloads are neither equal nor equivalent. Requires that each is
-/// accepted. Does not allocate.
+/// not meet: all of it, if the payloads are neither equal nor equivalent, and it is at the offset
+/// `from` or after it. Requires that each is accepted. Does not allocate.
 ///
 /// # Panics
 ///
@@ -124,8 +124,9 @@ pub fn nested_unmet<F: NestedFamily>(
     have: &PlacedNla<'_>,
     want: &PlacedNla<'_>,
     lists: u8,
+    from: usize,
 ) -> Option<Unmet> {
     let is_met = have.nla.value() == want.nla.value()
         || nested_same::<F>(&have.nla, &want.nla, lists, &mut HeaderCount::new());
-    unmet_as_whole(F::FAMILY, is_met, have, want)
+    unmet_as_whole(F::FAMILY, is_met, have, want, from)
 }

@@ -17,10 +17,11 @@ mod link_info;
 mod list;
 mod named;
 mod placed;
+mod request;
 mod role;
 mod standing;
 pub mod typed;
-mod unmet;
+mod unmet_walk;
 mod walk;
 mod xstats;
 
@@ -45,8 +46,9 @@ pub use list::{
     same_at_of, same_counted, same_counted_of, same_of,
 };
 pub use placed::{ErrorAt, ErrorIn, check_at, check_at_of};
+pub use request::{first_unmet, first_unmet_of, next_unmet, next_unmet_of};
 pub use standing::{AttributeAt, attribute_at};
-pub use unmet::{first_unmet, first_unmet_of};
+pub use unmet_walk::{UnmetAttributes, unmet};
 pub use walk::{LinkInfoItem, LinkInfoWalk};
 pub use xstats::LinkXstats;
 

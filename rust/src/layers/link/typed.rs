@@ -31,7 +31,8 @@ use crate::layers::link::difference::first_difference_of;
 use crate::layers::link::link_info::LinkInfoOf;
 use crate::layers::link::list::{VecLinkInfoOf, check_of, same_of};
 use crate::layers::link::placed::{ErrorAt, ErrorIn, check_at_of};
-use crate::layers::link::unmet::first_unmet_of;
+use crate::layers::link::request::{first_unmet_of, next_unmet_of};
+use crate::layers::link::unmet_walk::{UnmetAttributes, check_both};
 use crate::layers::nla_frame::{Bytes, DecodeError};
 pub use crate::layers::payloads::{
     Addresses, BridgeId, CanBerrCounter, CanBitTiming, CanBitTimingConst, Numbers,
@@ -84,6 +85,22 @@ pub fn same(a: &[u8], b: &[u8]) -> Result<bool, DecodeError> {
 /// [`first_unmet_of`]: crate::layers::link::first_unmet_of
 pub fn first_unmet(have: &[u8], want: &[u8]) -> Result<Option<Unmet>, ErrorIn> {
     first_unmet_of::<Typed<Bytes>>(have, want)
+}
+
+/// Returns the first attribute of the list `want`, at the offset `from` or after it, that the list
+/// `have` does not meet, or `None` if there is none; [`next_unmet_of`] says how all are found. The
+/// error is that of `have`, else that of `want`. Does not allocate.
+///
+/// [`next_unmet_of`]: crate::layers::link::next_unmet_of
+pub fn next_unmet(have: &[u8], want: &[u8], from: usize) -> Result<Option<Unmet>, ErrorIn> {
+    next_unmet_of::<Typed<Bytes>>(have, want, from)
+}
+
+/// Returns an iterator over the attributes of the list `want` that the list `have` does not meet,
+/// in order. The error is that of `have`, else that of `want`. Does not allocate.
+pub fn unmet<'a>(have: &'a [u8], want: &'a [u8]) -> Result<UnmetAttributes<'a>, ErrorIn> {
+    check_both::<Typed<Bytes>>(have, want)?;
+    Ok(UnmetAttributes::new(have, want, true))
 }
 
 /// Returns the first pair of attributes in which two lists differ, or `None` if and only if the

@@ -115,10 +115,15 @@ impl<A: Address> LinkPayload for Addresses<A> {
         whole_difference(family, is_same, a, b)
     }
 
-    fn unmet(family: Family, have: &PlacedNla<'_>, want: &PlacedNla<'_>) -> Option<Unmet> {
+    fn unmet(
+        family: Family,
+        have: &PlacedNla<'_>,
+        want: &PlacedNla<'_>,
+        from: usize,
+    ) -> Option<Unmet> {
         let (p, q) = (have.nla.value(), want.nla.value());
         let is_met = p == q || address_same::<A>(p, q, &mut HeaderCount::new());
-        unmet_as_whole(family, is_met, have, want)
+        unmet_as_whole(family, is_met, have, want, from)
     }
 }
 

@@ -119,10 +119,21 @@ pub fn exact_difference(
 }
 
 /// Returns the attribute `want` as a whole if its payload is not that of `have`, and `None` if it
-/// is. Does not allocate.
+/// is, or if `want` is before the offset `from`. Does not allocate.
 #[must_use]
-pub fn exact_unmet(family: Family, have: &PlacedNla<'_>, want: &PlacedNla<'_>) -> Option<Unmet> {
-    unmet_as_whole(family, have.nla.value() == want.nla.value(), have, want)
+pub fn exact_unmet(
+    family: Family,
+    have: &PlacedNla<'_>,
+    want: &PlacedNla<'_>,
+    from: usize,
+) -> Option<Unmet> {
+    unmet_as_whole(
+        family,
+        have.nla.value() == want.nla.value(),
+        have,
+        want,
+        from,
+    )
 }
 
 /// The error of a payload of another length.

@@ -152,7 +152,12 @@ impl<N: Number> LinkPayload for Numbers<N> {
         exact_difference(family, a, b)
     }
 
-    fn unmet(family: Family, have: &PlacedNla<'_>, want: &PlacedNla<'_>) -> Option<Unmet> {
-        exact_unmet(family, have, want)
+    fn unmet(
+        family: Family,
+        have: &PlacedNla<'_>,
+        want: &PlacedNla<'_>,
+        from: usize,
+    ) -> Option<Unmet> {
+        exact_unmet(family, have, want, from)
     }
 }

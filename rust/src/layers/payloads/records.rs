@@ -89,8 +89,13 @@ impl LinkPayload for BridgeId {
         exact_difference(family, a, b)
     }
 
-    fn unmet(family: Family, have: &PlacedNla<'_>, want: &PlacedNla<'_>) -> Option<Unmet> {
-        exact_unmet(family, have, want)
+    fn unmet(
+        family: Family,
+        have: &PlacedNla<'_>,
+        want: &PlacedNla<'_>,
+        from: usize,
+    ) -> Option<Unmet> {
+        exact_unmet(family, have, want, from)
     }
 }
 
@@ -168,8 +173,13 @@ impl LinkPayload for CanBerrCounter {
         exact_difference(family, a, b)
     }
 
-    fn unmet(family: Family, have: &PlacedNla<'_>, want: &PlacedNla<'_>) -> Option<Unmet> {
-        exact_unmet(family, have, want)
+    fn unmet(
+        family: Family,
+        have: &PlacedNla<'_>,
+        want: &PlacedNla<'_>,
+        from: usize,
+    ) -> Option<Unmet> {
+        exact_unmet(family, have, want, from)
     }
 }
 
@@ -273,8 +283,13 @@ impl LinkPayload for CanBitTiming {
         exact_difference(family, a, b)
     }
 
-    fn unmet(family: Family, have: &PlacedNla<'_>, want: &PlacedNla<'_>) -> Option<Unmet> {
-        exact_unmet(family, have, want)
+    fn unmet(
+        family: Family,
+        have: &PlacedNla<'_>,
+        want: &PlacedNla<'_>,
+        from: usize,
+    ) -> Option<Unmet> {
+        exact_unmet(family, have, want, from)
     }
 }
 
@@ -394,7 +409,12 @@ impl LinkPayload for CanBitTimingConst {
         exact_difference(family, a, b)
     }
 
-    fn unmet(family: Family, have: &PlacedNla<'_>, want: &PlacedNla<'_>) -> Option<Unmet> {
-        exact_unmet(family, have, want)
+    fn unmet(
+        family: Family,
+        have: &PlacedNla<'_>,
+        want: &PlacedNla<'_>,
+        from: usize,
+    ) -> Option<Unmet> {
+        exact_unmet(family, have, want, from)
     }
 }

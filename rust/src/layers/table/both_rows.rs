@@ -146,11 +146,16 @@ impl<F: RowFamily, A: CustomRows<F>, B: CustomRows<F>> CustomRows<F> for Both<A,
         }
     }
 
-    fn unmet(have: &PlacedNla<'_>, want: &PlacedNla<'_>, ctx: F::Context) -> Option<Unmet> {
+    fn unmet(
+        have: &PlacedNla<'_>,
+        want: &PlacedNla<'_>,
+        ctx: F::Context,
+        from: usize,
+    ) -> Option<Unmet> {
         if A::owns(want.nla.kind()) {
-            A::unmet(have, want, ctx)
+            A::unmet(have, want, ctx, from)
         } else {
-            B::unmet(have, want, ctx)
+            B::unmet(have, want, ctx, from)
         }
     }
 }

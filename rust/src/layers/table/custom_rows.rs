@@ -168,15 +168,20 @@ pub trait CustomRows<F: RowFamily> {
     /// not panic then, the result has no meaning.
     fn difference(a: &PlacedNla<'_>, b: &PlacedNla<'_>, ctx: F::Context) -> Option<Difference>;
 
-    /// What of the attribute `want` the attribute `have` of its type does not meet: the first
-    /// attribute that is not met in its list, if it contains one, otherwise all of it. Requires
-    /// that each is accepted. Does not allocate.
+    /// What of the attribute `want` the attribute `have` of its type does not meet, at the offset
+    /// `from` or after it: the first attribute that is not met in its list, if it contains one,
+    /// otherwise all of it. Requires that each is accepted. Does not allocate.
     ///
     /// # Panics
     ///
     /// May panic where a condition of the caller that is named here does not hold. Where it does
     /// not panic then, the result has no meaning.
-    fn unmet(have: &PlacedNla<'_>, want: &PlacedNla<'_>, ctx: F::Context) -> Option<Unmet>;
+    fn unmet(
+        have: &PlacedNla<'_>,
+        want: &PlacedNla<'_>,
+        ctx: F::Context,
+        from: usize,
+    ) -> Option<Unmet>;
 }
 
 impl<F: RowFamily> CustomRows<F> for () {
@@ -263,10 +268,15 @@ impl<F: RowFamily> CustomRows<F> for () {
     }
 
     #[inline]
-    fn unmet(have: &PlacedNla<'_>, want: &PlacedNla<'_>, ctx: F::Context) -> Option<Unmet> {
+    fn unmet(
+        have: &PlacedNla<'_>,
+        want: &PlacedNla<'_>,
+        ctx: F::Context,
+        from: usize,
+    ) -> Option<Unmet> {
         let is_met =
             have.nla.value() == want.nla.value() || row_same::<F>(&have.nla, &want.nla, ctx);
-        unmet_as_whole(F::FAMILY, is_met, have, want)
+        unmet_as_whole(F::FAMILY, is_met, have, want, from)
     }
 }
 
@@ -393,11 +403,16 @@ impl<F: RowFamily, R: PayloadRow<F>, Rest: CustomRows<F>> CustomRows<F> for (R, 
         }
     }
 
-    fn unmet(have: &PlacedNla<'_>, want: &PlacedNla<'_>, ctx: F::Context) -> Option<Unmet> {
+    fn unmet(
+        have: &PlacedNla<'_>,
+        want: &PlacedNla<'_>,
+        ctx: F::Context,
+        from: usize,
+    ) -> Option<Unmet> {
         if want.nla.kind() == R::NUMBER {
-            payload_unmet::<F, R>(have, want, ctx)
+            payload_unmet::<F, R>(have, want, ctx, from)
         } else {
-            Rest::unmet(have, want, ctx)
+            Rest::unmet(have, want, ctx, from)
         }
     }
 }

@@ -128,7 +128,8 @@ pub trait LinkFamily: Nla + Sized {
     fn difference(a: &PlacedNla<'_>, b: &PlacedNla<'_>, ctx: Self::Context) -> Option<Difference>;
 
     /// Returns what of the attribute `want` the attribute `have` of its type does not meet: the
-    /// first attribute that is not met in its list, if it contains one, otherwise all of it.
+    /// first attribute that is not met in its list, if it contains one, otherwise all of it. Only
+    /// attributes at the offset `from` or after it are looked for.
     ///
     /// An attribute is met by an equal payload, and by an equivalent attribute. A list of the
     /// family itself is met as a whole. Offsets are in bytes from the beginning of the lists that
@@ -138,5 +139,10 @@ pub trait LinkFamily: Nla + Sized {
     ///
     /// May panic where a condition of the caller that is named here does not hold. Where it does
     /// not panic then, the result has no meaning.
-    fn unmet(have: &PlacedNla<'_>, want: &PlacedNla<'_>, ctx: Self::Context) -> Option<Unmet>;
+    fn unmet(
+        have: &PlacedNla<'_>,
+        want: &PlacedNla<'_>,
+        ctx: Self::Context,
+        from: usize,
+    ) -> Option<Unmet>;
 }

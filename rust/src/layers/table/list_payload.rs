@@ -69,8 +69,14 @@ impl<F: LinkFamily<Context = ()> + Eq + ExactEq> LinkPayload for Nlas<F> {
         Some(inside.inside(a, b))
     }
 
-    fn unmet(_family: Family, have: &PlacedNla<'_>, want: &PlacedNla<'_>) -> Option<Unmet> {
-        let inside = list_unmet::<F>(have.nla.value(), want.nla.value(), ())?;
+    fn unmet(
+        _family: Family,
+        have: &PlacedNla<'_>,
+        want: &PlacedNla<'_>,
+        from: usize,
+    ) -> Option<Unmet> {
+        let from = want.from_inside(from);
+        let inside = list_unmet::<F>(have.nla.value(), want.nla.value(), (), from)?;
         Some(inside.inside(want, have))
     }
 }

@@ -113,7 +113,8 @@ pub trait LinkPayload: Sized + Eq + ExactEq {
 
     /// Returns what of the attribute `want` of this family the attribute `have`, both with such
     /// payloads, does not meet: the first attribute that is not met in its list, if it contains
-    /// one, otherwise all of it. Equal and equivalent payloads meet one another.
+    /// one, otherwise all of it. Equal and equivalent payloads meet one another. Only attributes at
+    /// the offset `from` or after it are looked for.
     ///
     /// Offsets are in bytes from the beginning of the lists that the attributes are in. Requires
     /// that each payload is accepted. Does not allocate.
@@ -122,5 +123,10 @@ pub trait LinkPayload: Sized + Eq + ExactEq {
     ///
     /// May panic where a condition of the caller that is named here does not hold. Where it does
     /// not panic then, the result has no meaning.
-    fn unmet(family: Family, have: &PlacedNla<'_>, want: &PlacedNla<'_>) -> Option<Unmet>;
+    fn unmet(
+        family: Family,
+        have: &PlacedNla<'_>,
+        want: &PlacedNla<'_>,
+        from: usize,
+    ) -> Option<Unmet>;
 }

@@ -169,8 +169,8 @@ pub fn payload_difference<F: RowFamily, R: PayloadRow<F>>(
     R::Payload::difference(F::FAMILY, a, b)
 }
 
-/// What of the attribute `want` of the row the attribute `have` of it does not meet. Requires that
-/// each is accepted. Does not allocate.
+/// What of the attribute `want` of the row the attribute `have` of it does not meet, at the offset
+/// `from` or after it. Requires that each is accepted. Does not allocate.
 ///
 /// # Panics
 ///
@@ -181,6 +181,7 @@ pub fn payload_unmet<F: RowFamily, R: PayloadRow<F>>(
     have: &PlacedNla<'_>,
     want: &PlacedNla<'_>,
     ctx: F::Context,
+    from: usize,
 ) -> Option<Unmet> {
-    R::Payload::unmet(F::FAMILY, have, want)
+    R::Payload::unmet(F::FAMILY, have, want, from)
 }

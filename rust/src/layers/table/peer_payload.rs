@@ -76,10 +76,15 @@ impl<P: LinkPeer> LinkPayload for P {
         whole_difference(family, is_same, a, b)
     }
 
-    fn unmet(family: Family, have: &PlacedNla<'_>, want: &PlacedNla<'_>) -> Option<Unmet> {
+    fn unmet(
+        family: Family,
+        have: &PlacedNla<'_>,
+        want: &PlacedNla<'_>,
+        from: usize,
+    ) -> Option<Unmet> {
         let is_met = have.nla.value() == want.nla.value()
             || <P as LinkPeer>::same(have.nla.value(), want.nla.value());
-        unmet_as_whole(family, is_met, have, want)
+        unmet_as_whole(family, is_met, have, want, from)
     }
 }
 

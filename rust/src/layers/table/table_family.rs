@@ -103,7 +103,8 @@ impl<F: TableFamily> LinkFamily for F {
         have: &PlacedNla<'_>,
         want: &PlacedNla<'_>,
         ctx: <F as RowFamily>::Context,
+        from: usize,
     ) -> Option<Unmet> {
-        <F as TableFamily>::Custom::unmet(have, want, ctx)
+        <F as TableFamily>::Custom::unmet(have, want, ctx, from)
     }
 }

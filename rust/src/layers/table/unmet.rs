@@ -55,6 +55,23 @@ impl Unmet {
         }
     }
 
+    /// As [`of_whole`], or `None` if the attribute is before the offset `from`.
+    ///
+    /// [`of_whole`]: crate::layers::table::Unmet::of_whole
+    #[must_use]
+    pub fn of_whole_from(
+        family: Family,
+        want: &PlacedNla<'_>,
+        have: Option<usize>,
+        from: usize,
+    ) -> Option<Unmet> {
+        if want.offset < from {
+            None
+        } else {
+            Some(Unmet::of_whole(family, want, have))
+        }
+    }
+
     /// What is not met of the payloads of two attributes, with the offsets from the beginning of
     /// the lists that these attributes are in. Requires that each sum is a `usize`.
     ///
@@ -76,24 +93,40 @@ impl Unmet {
     }
 }
 
-/// What of an attribute another one of its type does not meet, as a whole: nothing if it is met.
+impl PlacedNla<'_> {
+    /// An offset in the list that the attribute is in, as an offset in its payload: 0 if it is
+    /// before the payload. Requires that the payload begins in memory.
+    ///
+    /// # Panics
+    ///
+    /// May panic where a condition of the caller that is named here does not hold. Where it does
+    /// not panic then, the result has no meaning.
+    #[must_use]
+    pub fn from_inside(&self, from: usize) -> usize {
+        from.saturating_sub(self.offset + 4)
+    }
+}
+
+/// What of an attribute another one of its type does not meet, as a whole: nothing if it is met, or
+/// before the offset `from`.
 #[must_use]
 pub fn unmet_as_whole(
     family: Family,
     is_met: bool,
     have: &PlacedNla<'_>,
     want: &PlacedNla<'_>,
+    from: usize,
 ) -> Option<Unmet> {
     if is_met {
         None
     } else {
-        Some(Unmet::of_whole(family, want, Some(have.offset)))
+        Unmet::of_whole_from(family, want, Some(have.offset), from)
     }
 }
 
-/// Returns the first attribute of the list `want` that the list `have` does not meet, or `None` if
-/// it meets all of them. Both are accepted lists of attributes of a family. Offsets are in bytes
-/// from the beginning of each list.
+/// Returns the first attribute of the list `want`, at the offset `from` or after it, that the list
+/// `have` does not meet, or `None` if it meets all of them. Both are accepted lists of attributes
+/// of a family. Offsets are in bytes from the beginning of each list.
 ///
 /// Of several attributes of a type the last one counts, as in the kernel, and the last one of that
 /// type in `have` must meet it: by an equal payload, or an equivalent one. An attribute that
@@ -109,16 +142,27 @@ pub fn unmet_as_whole(
 /// May panic where a condition of the caller that is named here does not hold. Where it does
 /// not panic then, the result has no meaning.
 #[must_use]
-pub fn list_unmet<F: LinkFamily>(have: &[u8], want: &[u8], ctx: F::Context) -> Option<Unmet> {
+pub fn list_unmet<F: LinkFamily>(
+    have: &[u8],
+    want: &[u8],
+    ctx: F::Context,
+    from: usize,
+) -> Option<Unmet> {
     if F::IS_SET {
-        members_unmet::<F>(have, want, ctx)
+        members_unmet::<F>(have, want, ctx, from)
     } else {
-        lasts_unmet::<F>(have, want, ctx)
+        lasts_unmet::<F>(have, want, ctx, from)
     }
 }
 
-/// The first attribute of the set `want` that none of the set `have` meets.
-fn members_unmet<F: LinkFamily>(have: &[u8], want: &[u8], ctx: F::Context) -> Option<Unmet> {
+/// The first attribute of the set `want`, at the offset `from` or after it, that none of the set
+/// `have` meets.
+fn members_unmet<F: LinkFamily>(
+    have: &[u8],
+    want: &[u8],
+    ctx: F::Context,
+    from: usize,
+) -> Option<Unmet> {
     let mut count = HeaderCount::new();
     let mut rest = want;
     while let Some(Ok((nla, after))) = next_attribute(rest, &mut count) {
@@ -126,12 +170,27 @@ fn members_unmet<F: LinkFamily>(have: &[u8], want: &[u8], ctx: F::Context) -> Op
             offset: want.len() - rest.len(),
             nla,
         };
-        if !has_one_like::<F>(have, &wanted, ctx) {
-            return Some(Unmet::of_whole(F::FAMILY, &wanted, None));
+        if let Some(unmet) = member_unmet::<F>(have, &wanted, ctx, from) {
+            return Some(unmet);
         }
         rest = after;
     }
     None
+}
+
+/// This attribute of a set, if it is at the offset `from` or after it and none of the set `have`
+/// meets it.
+fn member_unmet<F: LinkFamily>(
+    have: &[u8],
+    wanted: &PlacedNla<'_>,
+    ctx: F::Context,
+    from: usize,
+) -> Option<Unmet> {
+    if wanted.offset < from || has_one_like::<F>(have, wanted, ctx) {
+        None
+    } else {
+        Some(Unmet::of_whole(F::FAMILY, wanted, None))
+    }
 }
 
 /// Whether an attribute of the list `have` meets this one, and has its type.
@@ -154,25 +213,32 @@ fn is_like<F: LinkFamily>(have: &NlaBuffer<'_>, want: &NlaBuffer<'_>, ctx: F::Co
         && (have.value() == want.value() || F::same_value(have, want, ctx, &mut HeaderCount::new()))
 }
 
-/// The first attribute of `want` that the last one of its type in `have` does not meet.
-fn lasts_unmet<F: LinkFamily>(have: &[u8], want: &[u8], ctx: F::Context) -> Option<Unmet> {
+/// The first attribute of `want`, at the offset `from` or after it, that the last one of its type
+/// in `have` does not meet.
+fn lasts_unmet<F: LinkFamily>(
+    have: &[u8],
+    want: &[u8],
+    ctx: F::Context,
+    from: usize,
+) -> Option<Unmet> {
     let end = types_end(want);
     let mut first = None;
     let mut block = 0;
     while block < end {
-        first = earlier(first, unmet_from::<F>(have, want, block, ctx));
+        first = earlier(first, unmet_of_types::<F>(have, want, block, ctx, from));
         block += INDEXED;
     }
     Some(first?.unmet)
 }
 
-/// The first attribute of `want` that `have` does not meet, among those of `INDEXED` types from
-/// `start` on.
-fn unmet_from<F: LinkFamily>(
+/// The first attribute of `want`, at the offset `from` or after it, that `have` does not meet,
+/// among those of `INDEXED` types from `start` on.
+fn unmet_of_types<F: LinkFamily>(
     have: &[u8],
     want: &[u8],
     start: u16,
     ctx: F::Context,
+    from: usize,
 ) -> Option<UnmetAt> {
     let found = LastOfType::new(have, start);
     let wanted = LastOfType::new(want, start);
@@ -184,7 +250,7 @@ fn unmet_from<F: LinkFamily>(
         let kind = placed.nla.kind();
         if wanted.offset(kind) == Some(offset) {
             let last = found.find(kind);
-            if let Some(unmet) = found_unmet::<F>(&last, &placed, ctx) {
+            if let Some(unmet) = found_unmet::<F>(&last, &placed, ctx, from) {
                 return Some(UnmetAt { offset, unmet });
             }
         }
@@ -193,16 +259,22 @@ fn unmet_from<F: LinkFamily>(
     None
 }
 
-/// What of an attribute the one of its type that was found, if one was, does not meet.
+/// What of an attribute the one of its type that was found, if one was, does not meet, at the
+/// offset `from` or after it. An attribute that ends before that is not looked at.
 #[inline]
 fn found_unmet<F: LinkFamily>(
     have: &Option<PlacedNla<'_>>,
     want: &PlacedNla<'_>,
     ctx: F::Context,
+    from: usize,
 ) -> Option<Unmet> {
+    let end = want.offset + want.nla.length() as usize;
+    if end <= from {
+        return None;
+    }
     match have {
-        Some(found) => F::unmet(found, want, ctx),
-        None => Some(Unmet::of_whole(F::FAMILY, want, None)),
+        Some(found) => F::unmet(found, want, ctx, from),
+        None => Unmet::of_whole_from(F::FAMILY, want, None, from),
     }
 }
 

@@ -571,12 +571,17 @@ fn told_unmet(unmet: Option<Unmet>) -> Option<NotMet> {
     Some((it.family, it.kind, it.want, it.have))
 }
 
-/// Asserts what an accepted list does not meet of an accepted request.
+/// Asserts what an accepted list does not meet of an accepted request, from its beginning on, and
+/// from the attribute that is not met on.
 fn does_not_meet<F: LinkFamily>(ctx: F::Context, have: &[u8], want: &[u8], wanted: Option<NotMet>) {
     is_accepted::<F>(ctx, have);
     is_accepted::<F>(ctx, want);
-    let told = told_unmet(list_unmet::<F>(have, want, ctx));
+    let told = told_unmet(list_unmet::<F>(have, want, ctx, 0));
     assert_is(("unmet", have, want), told, wanted);
+    if let Some((_, _, place, _)) = wanted {
+        let told = told_unmet(list_unmet::<F>(have, want, ctx, place));
+        assert_is(("unmet from there", have, want), told, wanted);
+    }
 }
 
 /// Asserts of each accepted list and request what the list does not meet of the request.

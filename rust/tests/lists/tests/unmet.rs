@@ -151,7 +151,7 @@ fn unmet_of<P, F: PayloadFamily<P>>(family: F, have: &[u8], want: &[u8]) -> Opti
     let _name = family.listing().expect("a list");
     check_payload::<P, F>(family, have, &mut HeaderCount::new()).expect("accepted");
     check_payload::<P, F>(family, want, &mut HeaderCount::new()).expect("accepted");
-    list_unmet::<P, F>(family, have, want)
+    list_unmet::<P, F>(family, have, want, 0)
 }
 
 /// Asserts what is not met in a case, of a family.

@@ -3,7 +3,7 @@
 //! Lists that meet themselves, lists with more attributes, equivalent lists, and other orders.
 
 use super::assertions::{assert_equal, bytes_of};
-use linkinfo::layers::link::{Family, Unmet, first_unmet, same};
+use linkinfo::layers::link::{Family, Unmet, first_unmet, same, unmet};
 
 /// A vxlan link with the VNI 42 and a TTL of 64.
 const VXLAN: &str =
@@ -43,6 +43,8 @@ fn each_list_meets_itself() {
     for text in LISTS {
         let bytes = bytes_of(text);
         assert_met(&bytes, &bytes);
+        let mut unmets = unmet(&bytes, &bytes).expect("accepted");
+        assert_equal(text, &unmets.next(), &None);
     }
 }
 

@@ -1,4 +1,4 @@
-// @generated from crates/linkinfo/src/unmet.rt by rust/translate/run.
+// @generated from crates/linkinfo/src/request.rt by rust/translate/run.
 
 //! Whether a link has all attributes of a request, and which one it lacks.
 
@@ -102,12 +102,13 @@ fn is_same_kind(role: Role, have: Names<'_>, want: Names<'_>) -> bool {
     }
 }
 
-/// What of data `want` does not find in data `have` of its kind: an attribute, where data is a
-/// list.
+/// What of data `want`, at the offset `from` or after it, is not met by data `have` of its kind: an
+/// attribute, if data is a list.
 fn data_unmet<P, F: PayloadFamily<P>>(
     family: F,
     have: &PlacedNla<'_>,
     want: &PlacedNla<'_>,
+    from: usize,
 ) -> Option<Unmet> {
     let (had, wanted) = (have.nla.value(), want.nla.value());
     if had == wanted {
@@ -115,12 +116,12 @@ fn data_unmet<P, F: PayloadFamily<P>>(
     }
     match family.listing() {
         Some(_) => {
-            let inside = list_unmet::<P, F>(family, had, wanted)?;
+            let inside = list_unmet::<P, F>(family, had, wanted, want.from_inside(from))?;
             Some(inside.inside(want, have))
         }
         None => {
             let is_met = same_payloads::<P, F>(family, had, wanted, &mut HeaderCount::new());
-            unmet_as_whole(Family::LinkInfo, is_met, have, want)
+            unmet_as_whole(Family::LinkInfo, is_met, have, want, from)
         }
     }
 }
@@ -134,73 +135,84 @@ fn belongs_to_a_kind(kind: u16) -> bool {
     )
 }
 
-/// What of an attribute of `want` the last one of its type in `have` does not meet.
+/// What of an attribute of `want`, at the offset `from` or after it, the last one of its type in
+/// `have` does not meet. An attribute that ends before that is not looked at.
 fn placed_unmet<P: DataLayer>(
     have: &[u8],
     found: &Option<PlacedNla<'_>>,
     want: &[u8],
     placed: &PlacedNla<'_>,
+    from: usize,
 ) -> Option<Unmet> {
+    let end = placed.offset + placed.nla.length() as usize;
+    if end <= from {
+        return None;
+    }
     let Some(found) = found else {
-        return Some(Unmet::of_whole(Family::LinkInfo, placed, None));
+        return Unmet::of_whole_from(Family::LinkInfo, placed, None, from);
     };
     let kind = placed.nla.kind();
     if !belongs_to_a_kind(kind) {
-        return item_unmet::<P>(role_of(CurrentKinds::none(), kind), found, placed);
+        return item_unmet::<P>(role_of(CurrentKinds::none(), kind), found, placed, from);
     }
     let had = names_before(have, found.offset);
     let wanted = names_before(want, placed.offset);
     let role = role_of(wanted.kinds(), kind);
     if !is_same_kind(role, had, wanted) {
-        return Some(Unmet::of_whole(
-            Family::LinkInfo,
-            placed,
-            Some(found.offset),
-        ));
+        return Unmet::of_whole_from(Family::LinkInfo, placed, Some(found.offset), from);
     }
-    role_unmet::<P>(role, found, placed)
+    role_unmet::<P>(role, found, placed, from)
 }
 
-/// What of an attribute another one of its type and role does not meet.
+/// What of an attribute, at the offset `from` or after it, another one of its type and role does
+/// not meet.
 fn role_unmet<P: DataLayer>(
     role: Role,
     have: &PlacedNla<'_>,
     want: &PlacedNla<'_>,
+    from: usize,
 ) -> Option<Unmet> {
     match role {
-        Role::Data(tag) => data_unmet::<P, DataFamily>(family_of(tag), have, want),
-        Role::PortData(tag) => data_unmet::<P, PortFamily>(port_family_of(tag), have, want),
-        _ => item_unmet::<P>(role, have, want),
+        Role::Data(tag) => data_unmet::<P, DataFamily>(family_of(tag), have, want, from),
+        Role::PortData(tag) => data_unmet::<P, PortFamily>(port_family_of(tag), have, want, from),
+        _ => item_unmet::<P>(role, have, want, from),
     }
 }
 
 /// What of an attribute that is no data another one of its type and role does not meet: nothing, or
-/// the whole.
+/// the whole, if it is at the offset `from` or after it.
 fn item_unmet<P: DataLayer>(
     role: Role,
     have: &PlacedNla<'_>,
     want: &PlacedNla<'_>,
+    from: usize,
 ) -> Option<Unmet> {
     let is_met = have.nla.value() == want.nla.value()
         || same_item::<P>(&have.nla, &want.nla, role, &mut HeaderCount::new());
-    unmet_as_whole(Family::LinkInfo, is_met, have, want)
+    unmet_as_whole(Family::LinkInfo, is_met, have, want, from)
 }
 
-/// The first attribute of an accepted list that another one does not meet.
-fn first_unmet_in<P: DataLayer>(have: &[u8], want: &[u8]) -> Option<Unmet> {
+/// The first attribute of an accepted list, at the offset `from` or after it, that another one does
+/// not meet.
+pub(crate) fn next_unmet_in<P: DataLayer>(have: &[u8], want: &[u8], from: usize) -> Option<Unmet> {
     let end = types_end(want);
     let mut first = None;
     let mut block = 0;
     while block < end {
-        first = earlier(first, unmet_from::<P>(have, want, block));
+        first = earlier(first, unmet_of_types::<P>(have, want, block, from));
         block += INDEXED;
     }
     Some(first?.unmet)
 }
 
-/// The first attribute of an accepted list that another one does not meet, among those of `INDEXED`
-/// types from `start` on.
-fn unmet_from<P: DataLayer>(have: &[u8], want: &[u8], start: u16) -> Option<UnmetAt> {
+/// The first attribute of an accepted list, at the offset `from` or after it, that another one does
+/// not meet, among those of `INDEXED` types from `start` on.
+fn unmet_of_types<P: DataLayer>(
+    have: &[u8],
+    want: &[u8],
+    start: u16,
+    from: usize,
+) -> Option<UnmetAt> {
     let found = LastOfType::new(have, start);
     let wanted = LastOfType::new(want, start);
     let mut count = HeaderCount::new();
@@ -211,7 +223,7 @@ fn unmet_from<P: DataLayer>(have: &[u8], want: &[u8], start: u16) -> Option<Unme
         let kind = placed.nla.kind();
         if wanted.offset(kind) == Some(offset) {
             let last = found.find(kind);
-            if let Some(unmet) = placed_unmet::<P>(have, &last, want, &placed) {
+            if let Some(unmet) = placed_unmet::<P>(have, &last, want, &placed, from) {
                 return Some(UnmetAt { offset, unmet });
             }
         }
@@ -242,6 +254,25 @@ fn unmet_from<P: DataLayer>(have: &[u8], want: &[u8], start: u16) -> Option<Unme
 /// [`list_unmet`]: crate::layers::data::list_unmet
 /// [`Family::LinkInfo`]: crate::layers::nla_frame::Family::LinkInfo
 pub fn first_unmet_of<P: DataLayer>(have: &[u8], want: &[u8]) -> Result<Option<Unmet>, ErrorIn> {
+    next_unmet_of::<P>(have, want, 0)
+}
+
+/// Returns the first attribute of the list `want`, at the offset `from` or after it, that the list
+/// `have` does not meet, over the layer `P`, or `None` if there is none. With 0 it is what
+/// [`first_unmet_of`] returns, and after an attribute that is not met the next one is that from
+/// `want + 1` on: so a caller comes to all of them, in order. What is met is said there, and the
+/// error is as there.
+///
+/// Attributes of `want` that end before `from` are not compared. Each call passes over the lists as
+/// [`first_unmet_of`] does; [`unmet`] validates them once for all. Does not allocate.
+///
+/// [`first_unmet_of`]: crate::layers::link::first_unmet_of
+/// [`unmet`]: crate::layers::link::unmet
+pub fn next_unmet_of<P: DataLayer>(
+    have: &[u8],
+    want: &[u8],
+    from: usize,
+) -> Result<Option<Unmet>, ErrorIn> {
     match check_of::<P>(have) {
         Ok(()) => {}
         Err(error) => return Err(ErrorIn::First(error)),
@@ -253,7 +284,7 @@ pub fn first_unmet_of<P: DataLayer>(have: &[u8], want: &[u8]) -> Result<Option<U
         Ok(()) => {}
         Err(error) => return Err(ErrorIn::Second(error)),
     }
-    Ok(first_unmet_in::<P>(have, want))
+    Ok(next_unmet_in::<P>(have, want, from))
 }
 
 /// Returns the first attribute of the list `want` that the list `have` does not meet, or `None`
@@ -277,4 +308,13 @@ pub fn first_unmet_of<P: DataLayer>(have: &[u8], want: &[u8]) -> Result<Option<U
 /// [`first_unmet_of`]: crate::layers::link::first_unmet_of
 pub fn first_unmet(have: &[u8], want: &[u8]) -> Result<Option<Unmet>, ErrorIn> {
     first_unmet_of::<Bytes>(have, want)
+}
+
+/// Returns the first attribute of the list `want`, at the offset `from` or after it, that the list
+/// `have` does not meet, or `None` if there is none. The error is that of `have`, else that of
+/// `want`. Peers are kept as bytes; [`next_unmet_of`] takes other layers. Does not allocate.
+///
+/// [`next_unmet_of`]: crate::layers::link::next_unmet_of
+pub fn next_unmet(have: &[u8], want: &[u8], from: usize) -> Result<Option<Unmet>, ErrorIn> {
+    next_unmet_of::<Bytes>(have, want, from)
 }
