@@ -91,6 +91,7 @@ impl<P: LinkLayer> PayloadFamily<P> for DeviceFamily {
     ghost known = { devices_known (layer_types P P.Peer P.Bond P.Bridge P.Vlan P.Can P.Hsr
         P.Dsa P.Tun P.BondPort P.BridgePort) };
 
+    #[inline(always)]
     fn read(
         self,
         alloc: Global,
@@ -105,5 +106,3 @@ impl<P: LinkLayer> PayloadFamily<P> for DeviceFamily {
         of_device!(P, self, ask(question, count, buffer))
     }
 }
-
-pub(crate) use of_device;

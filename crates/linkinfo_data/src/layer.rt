@@ -13,15 +13,12 @@ ghost use Rattle.linkinfo_data.specs.declared.port_data.PortFamily.{PortFamily};
 use crate::ask::Ask;
 use crate::calls::{ask, read};
 use crate::data::DataFamily;
-use crate::devices::{DeviceFamily, of_device};
 use crate::encode::Encode;
 use crate::info_data::{InfoDataOf, encode_data};
 use crate::laws::families_lawful_by;
 use crate::lower::{LowerFamily, of_lower};
 use crate::payload_family::PayloadFamily;
-use crate::peers::{PeeredFamily, of_peered};
 use crate::port_data::{InfoPortDataOf, PortFamily, encode_port_data, of_port};
-use crate::tunnels::{TunnelFamily, of_tunnel};
 use linkinfo_devices::InfoVrfPort;
 use linkinfo_peers::InfoTeamPort;
 use linkinfo_table::{LayerFamilies, LinkLayer, LinkPeer, Supplied};
@@ -150,9 +147,9 @@ impl<P: LinkPeer> DataLayer for P {
     ) -> Result<InfoDataOf<P>, DecodeError> {
         match family {
             DataFamily::Lower(family) => of_lower!(P, family, read(alloc, payload, count)),
-            DataFamily::Device(family) => of_device!(P, family, read(alloc, payload, count)),
-            DataFamily::Tunnel(family) => of_tunnel!(P, family, read(alloc, payload, count)),
-            DataFamily::Peered(family) => of_peered!(P, family, read(alloc, payload, count)),
+            DataFamily::Device(family) => family.read(alloc, payload, count),
+            DataFamily::Tunnel(family) => family.read(alloc, payload, count),
+            DataFamily::Peered(family) => family.read(alloc, payload, count),
             DataFamily::Raw => Ok(InfoDataOf::Other(Bytes::copy_of(alloc, payload)?)),
         }
     }
@@ -166,9 +163,15 @@ impl<P: LinkPeer> DataLayer for P {
     ) -> Q::Answer {
         match family {
             DataFamily::Lower(family) => of_lower!(P, family, ask(question, count, buffer)),
-            DataFamily::Device(family) => of_device!(P, family, ask(question, count, buffer)),
-            DataFamily::Tunnel(family) => of_tunnel!(P, family, ask(question, count, buffer)),
-            DataFamily::Peered(family) => of_peered!(P, family, ask(question, count, buffer)),
+            DataFamily::Device(family) => {
+                PayloadFamily::<P>::ask(family, question, count, buffer)
+            }
+            DataFamily::Tunnel(family) => {
+                PayloadFamily::<P>::ask(family, question, count, buffer)
+            }
+            DataFamily::Peered(family) => {
+                PayloadFamily::<P>::ask(family, question, count, buffer)
+            }
             DataFamily::Raw => question.of_bytes(count, buffer),
         }
     }

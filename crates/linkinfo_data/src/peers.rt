@@ -87,6 +87,7 @@ impl<P: LinkLayer> PayloadFamily<P> for PeeredFamily {
         P.Dsa P.Tun P.BondPort P.BridgePort)
         P.Peer.LinkPeer.own };
 
+    #[inline(always)]
     fn read(
         self,
         alloc: Global,
@@ -101,5 +102,3 @@ impl<P: LinkLayer> PayloadFamily<P> for PeeredFamily {
         of_peered!(P, self, ask(question, count, buffer))
     }
 }
-
-pub(crate) use of_peered;

@@ -130,6 +130,7 @@ impl<P: LinkLayer> PayloadFamily<P> for TunnelFamily {
     ghost known = { tunnels_known (layer_types P P.Peer P.Bond P.Bridge P.Vlan P.Can P.Hsr
         P.Dsa P.Tun P.BondPort P.BridgePort) };
 
+    #[inline(always)]
     fn read(
         self,
         alloc: Global,
@@ -144,5 +145,3 @@ impl<P: LinkLayer> PayloadFamily<P> for TunnelFamily {
         of_tunnel!(P, self, ask(question, count, buffer))
     }
 }
-
-pub(crate) use of_tunnel;

@@ -14,15 +14,13 @@ ghost use Rattle.linkinfo_typed.specs.declared.vlan.InfoVlan.{InfoVlan};
 use crate::ask::Ask;
 use crate::calls::{ask, read};
 use crate::data::DataFamily;
-use crate::devices::{DeviceFamily, of_device};
 use crate::encode::Encode;
 use crate::info_data::{InfoDataOf, encode_data};
 use crate::laws::supplied_lawful;
 use crate::layer::DataLayer;
 use crate::lower::{LowerFamily, of_lower};
-use crate::peers::{PeeredFamily, of_peered};
+use crate::payload_family::PayloadFamily;
 use crate::port_data::{InfoPortDataOf, PortFamily, encode_port_data, of_port};
-use crate::tunnels::{TunnelFamily, of_tunnel};
 use linkinfo_devices::InfoVrfPort;
 use linkinfo_peers::InfoTeamPort;
 use linkinfo_table::{LinkLayer, LinkPeer, ListedFamily};
@@ -101,9 +99,9 @@ impl<P: LinkPeer> DataLayer for Typed<P> {
     ) -> Result<InfoDataOf<Typed<P>>, DecodeError> {
         match family {
             DataFamily::Lower(family) => of_lower!(Typed<P>, family, read(alloc, payload, count)),
-            DataFamily::Device(family) => of_device!(Typed<P>, family, read(alloc, payload, count)),
-            DataFamily::Tunnel(family) => of_tunnel!(Typed<P>, family, read(alloc, payload, count)),
-            DataFamily::Peered(family) => of_peered!(Typed<P>, family, read(alloc, payload, count)),
+            DataFamily::Device(family) => family.read(alloc, payload, count),
+            DataFamily::Tunnel(family) => family.read(alloc, payload, count),
+            DataFamily::Peered(family) => family.read(alloc, payload, count),
             DataFamily::Raw => Ok(InfoDataOf::Other(Bytes::copy_of(alloc, payload)?)),
         }
     }
@@ -117,12 +115,15 @@ impl<P: LinkPeer> DataLayer for Typed<P> {
     ) -> Q::Answer {
         match family {
             DataFamily::Lower(family) => of_lower!(Typed<P>, family, ask(question, count, buffer)),
-            DataFamily::Device(family) =>
-                of_device!(Typed<P>, family, ask(question, count, buffer)),
-            DataFamily::Tunnel(family) =>
-                of_tunnel!(Typed<P>, family, ask(question, count, buffer)),
-            DataFamily::Peered(family) =>
-                of_peered!(Typed<P>, family, ask(question, count, buffer)),
+            DataFamily::Device(family) => {
+                PayloadFamily::<Typed<P>>::ask(family, question, count, buffer)
+            }
+            DataFamily::Tunnel(family) => {
+                PayloadFamily::<Typed<P>>::ask(family, question, count, buffer)
+            }
+            DataFamily::Peered(family) => {
+                PayloadFamily::<Typed<P>>::ask(family, question, count, buffer)
+            }
             DataFamily::Raw => question.of_bytes(count, buffer),
         }
     }

@@ -79,6 +79,7 @@ macro_rules! of_device {
 impl<P: LinkLayer> PayloadFamily<P> for DeviceFamily {
     type Data = InfoDataOf<P>;
 
+    #[inline(always)]
     fn read(self, payload: &[u8], count: &mut HeaderCount) -> Result<InfoDataOf<P>, DecodeError> {
         of_device!(P, self, read(payload, count))
     }
@@ -88,5 +89,3 @@ impl<P: LinkLayer> PayloadFamily<P> for DeviceFamily {
         of_device!(P, self, ask(question, count, buffer))
     }
 }
-
-pub(crate) use of_device;

@@ -6,14 +6,11 @@
 use crate::layers::data::ask::Ask;
 use crate::layers::data::calls::{ask, read};
 use crate::layers::data::data::DataFamily;
-use crate::layers::data::devices::{DeviceFamily, of_device};
 use crate::layers::data::encode::Encode;
 use crate::layers::data::info_data::{InfoDataOf, encode_data};
 use crate::layers::data::lower::{LowerFamily, of_lower};
 use crate::layers::data::payload_family::PayloadFamily;
-use crate::layers::data::peers::{PeeredFamily, of_peered};
 use crate::layers::data::port_data::{InfoPortDataOf, PortFamily, encode_port_data, of_port};
-use crate::layers::data::tunnels::{TunnelFamily, of_tunnel};
 use crate::layers::devices::InfoVrfPort;
 use crate::layers::nla_frame::{Bytes, DecodeError, HeaderCount};
 use crate::layers::peers::InfoTeamPort;
@@ -135,9 +132,9 @@ impl<P: LinkPeer> DataLayer for P {
     ) -> Result<InfoDataOf<P>, DecodeError> {
         match family {
             DataFamily::Lower(family) => of_lower!(P, family, read(payload, count)),
-            DataFamily::Device(family) => of_device!(P, family, read(payload, count)),
-            DataFamily::Tunnel(family) => of_tunnel!(P, family, read(payload, count)),
-            DataFamily::Peered(family) => of_peered!(P, family, read(payload, count)),
+            DataFamily::Device(family) => family.read(payload, count),
+            DataFamily::Tunnel(family) => family.read(payload, count),
+            DataFamily::Peered(family) => family.read(payload, count),
             DataFamily::Raw => Ok(InfoDataOf::Other(Bytes::copy_of(payload)?)),
         }
     }
@@ -151,9 +148,9 @@ impl<P: LinkPeer> DataLayer for P {
     ) -> Q::Answer {
         match family {
             DataFamily::Lower(family) => of_lower!(P, family, ask(question, count, buffer)),
-            DataFamily::Device(family) => of_device!(P, family, ask(question, count, buffer)),
-            DataFamily::Tunnel(family) => of_tunnel!(P, family, ask(question, count, buffer)),
-            DataFamily::Peered(family) => of_peered!(P, family, ask(question, count, buffer)),
+            DataFamily::Device(family) => PayloadFamily::<P>::ask(family, question, count, buffer),
+            DataFamily::Tunnel(family) => PayloadFamily::<P>::ask(family, question, count, buffer),
+            DataFamily::Peered(family) => PayloadFamily::<P>::ask(family, question, count, buffer),
             DataFamily::Raw => question.of_bytes(count, buffer),
         }
     }

@@ -73,6 +73,7 @@ macro_rules! of_peered {
 impl<P: LinkLayer> PayloadFamily<P> for PeeredFamily {
     type Data = InfoDataOf<P>;
 
+    #[inline(always)]
     fn read(self, payload: &[u8], count: &mut HeaderCount) -> Result<InfoDataOf<P>, DecodeError> {
         of_peered!(P, self, read(payload, count))
     }
@@ -82,5 +83,3 @@ impl<P: LinkLayer> PayloadFamily<P> for PeeredFamily {
         of_peered!(P, self, ask(question, count, buffer))
     }
 }
-
-pub(crate) use of_peered;

@@ -97,6 +97,7 @@ macro_rules! of_tunnel {
 impl<P: LinkLayer> PayloadFamily<P> for TunnelFamily {
     type Data = InfoDataOf<P>;
 
+    #[inline(always)]
     fn read(self, payload: &[u8], count: &mut HeaderCount) -> Result<InfoDataOf<P>, DecodeError> {
         of_tunnel!(P, self, read(payload, count))
     }
@@ -106,5 +107,3 @@ impl<P: LinkLayer> PayloadFamily<P> for TunnelFamily {
         of_tunnel!(P, self, ask(question, count, buffer))
     }
 }
-
-pub(crate) use of_tunnel;

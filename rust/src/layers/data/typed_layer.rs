@@ -5,14 +5,12 @@
 use crate::layers::data::ask::Ask;
 use crate::layers::data::calls::{ask, read};
 use crate::layers::data::data::DataFamily;
-use crate::layers::data::devices::{DeviceFamily, of_device};
 use crate::layers::data::encode::Encode;
 use crate::layers::data::info_data::{InfoDataOf, encode_data};
 use crate::layers::data::layer::DataLayer;
 use crate::layers::data::lower::{LowerFamily, of_lower};
-use crate::layers::data::peers::{PeeredFamily, of_peered};
+use crate::layers::data::payload_family::PayloadFamily;
 use crate::layers::data::port_data::{InfoPortDataOf, PortFamily, encode_port_data, of_port};
-use crate::layers::data::tunnels::{TunnelFamily, of_tunnel};
 use crate::layers::devices::InfoVrfPort;
 use crate::layers::nla_frame::{Bytes, DecodeError, HeaderCount};
 use crate::layers::peers::InfoTeamPort;
@@ -66,9 +64,9 @@ impl<P: LinkPeer> DataLayer for Typed<P> {
     ) -> Result<InfoDataOf<Typed<P>>, DecodeError> {
         match family {
             DataFamily::Lower(family) => of_lower!(Typed<P>, family, read(payload, count)),
-            DataFamily::Device(family) => of_device!(Typed<P>, family, read(payload, count)),
-            DataFamily::Tunnel(family) => of_tunnel!(Typed<P>, family, read(payload, count)),
-            DataFamily::Peered(family) => of_peered!(Typed<P>, family, read(payload, count)),
+            DataFamily::Device(family) => family.read(payload, count),
+            DataFamily::Tunnel(family) => family.read(payload, count),
+            DataFamily::Peered(family) => family.read(payload, count),
             DataFamily::Raw => Ok(InfoDataOf::Other(Bytes::copy_of(payload)?)),
         }
     }
@@ -83,13 +81,13 @@ impl<P: LinkPeer> DataLayer for Typed<P> {
         match family {
             DataFamily::Lower(family) => of_lower!(Typed<P>, family, ask(question, count, buffer)),
             DataFamily::Device(family) => {
-                of_device!(Typed<P>, family, ask(question, count, buffer))
+                PayloadFamily::<Typed<P>>::ask(family, question, count, buffer)
             }
             DataFamily::Tunnel(family) => {
-                of_tunnel!(Typed<P>, family, ask(question, count, buffer))
+                PayloadFamily::<Typed<P>>::ask(family, question, count, buffer)
             }
             DataFamily::Peered(family) => {
-                of_peered!(Typed<P>, family, ask(question, count, buffer))
+                PayloadFamily::<Typed<P>>::ask(family, question, count, buffer)
             }
             DataFamily::Raw => question.of_bytes(count, buffer),
         }
