@@ -82,9 +82,13 @@ pub(crate) fn check_both<P: DataLayer>(have: &[u8], want: &[u8]) -> Result<(), E
 /// its first item is what `first_unmet` returns, and it has no item if `have` meets all of `want`.
 /// The error is that of `have`, else that of `want`. Does not allocate.
 ///
+/// Both lists are validated, also where they are equal. Each step passes over both once more, so a
+/// walk over many unmet attributes of long lists may be worth ending early. Over a layer of your
+/// own, call `next_unmet_of` for each step.
+///
 /// ```text
-/// for unmet in unmet(&received, &wanted)? {
-///     .. // an attribute at offset `unmet.want` of what is wanted
+/// for lacking in unmet(&received, &wanted)? {
+///     .. // an attribute at offset `lacking.want` of what is wanted
 /// }
 /// ```
 pub fn unmet<'a>(have: &'a [u8], want: &'a [u8]) -> Result<UnmetAttributes<'a>, ErrorIn>
