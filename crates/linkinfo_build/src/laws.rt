@@ -3,7 +3,6 @@
 ghost use Rattle.std.specs.Prelude.{◌≡◌, ◌↔◌, ◌≤◌, ◌%◌, ℕ, List, Ok, length, map, true};
 ghost use Rattle.nla_frame.specs.Attribute.{Attribute, IsBytes, list_string};
 ghost use Rattle.nla_frame.specs.NlaItems.{nla_items};
-ghost use Rattle.nla_frame.specs.declared.error.Family.{Family};
 ghost use Rattle.linkinfo_shapes.specs.Data.{Suits, Value};
 ghost use Rattle.linkinfo_shapes.specs.declared.shape.Shape.{Shape};
 ghost use Rattle.linkinfo_build.specs.Build.{attributes_of, encoding};
@@ -11,6 +10,7 @@ ghost use Rattle.linkinfo_build.specs.Bytes.{IsAddressString, is_address_list};
 ghost use Rattle.linkinfo_build.specs.Canonical.{IsCanonicalList};
 ghost use Rattle.linkinfo_build.specs.Reading.{entry_of, values_of};
 ghost use Rattle.linkinfo_build.specs.Suits.{is_suited};
+ghost use Rattle.linkinfo_build.specs.declared.rows.Rows.{Rows};
 
 use crate::holding::held;
 use crate::value::BuildValue;
@@ -21,17 +21,17 @@ use crate::value::BuildValue;
 /// that its row is written with, a payload that is accepted and is what is written for its datum,
 /// and zeros as padding; so do those of lists in lists.
 pub fn built(values: &[BuildValue<'_>])
-    ensures bytes { (f : Family) (string : List ℕ) →
-        encoding f values.now ≡ Ok string → IsBytes string }
-    ensures short { (f : Family) (string : List ℕ) →
-        encoding f values.now ≡ Ok string → length string ≤ 65531 }
-    ensures framed { (f : Family) (attributes : List Attribute) →
-        attributes_of f values.now ≡ Ok attributes →
+    ensures bytes { (rows : Rows) (string : List ℕ) →
+        encoding rows values.now ≡ Ok string → IsBytes string }
+    ensures short { (rows : Rows) (string : List ℕ) →
+        encoding rows values.now ≡ Ok string → length string ≤ 65531 }
+    ensures framed { (rows : Rows) (attributes : List Attribute) →
+        attributes_of rows values.now ≡ Ok attributes →
         nla_items (list_string attributes) ≡ map (λ a. Ok a) attributes }
-    ensures read { (f : Family) (string : List ℕ) →
-        encoding f values.now ≡ Ok string → values_of f string ≡ map entry_of values.now }
-    ensures canonical { (f : Family) (string : List ℕ) →
-        encoding f values.now ≡ Ok string → IsCanonicalList f string }
+    ensures read { (rows : Rows) (string : List ℕ) →
+        encoding rows values.now ≡ Ok string → values_of rows string ≡ map entry_of values.now }
+    ensures canonical { (rows : Rows) (string : List ℕ) →
+        encoding rows values.now ≡ Ok string → IsCanonicalList rows string }
 {
     held(values);
 }

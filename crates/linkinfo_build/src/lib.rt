@@ -3,8 +3,10 @@
 
 mod building;
 mod bytes;
+mod forms;
 mod holding;
 pub mod laws;
+mod link;
 mod measure;
 mod rows;
 mod suits;
@@ -12,6 +14,8 @@ mod value;
 mod write;
 
 pub use building::{build, built_len};
+pub use forms::{family_of_kind, family_of_port_kind};
+pub use link::{BuildData, BuildLink, LinkBuildError, LinkPart, PartCause};
 pub use value::{BuildCause, BuildDatum, BuildError, BuildValue};
 
 #[cfg(test)]
