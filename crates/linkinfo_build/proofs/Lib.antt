@@ -1,4 +1,5 @@
 pub mod Addresses
+pub mod LinkParts
 pub mod Listing
 pub mod Payloads
 pub mod Reading

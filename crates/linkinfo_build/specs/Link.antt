@@ -62,7 +62,7 @@ values_payload rows values = of_values (encoding rows values)
 
 -- data of this form: bytes, or the encoding of values
 unfoldable pub data_payload : DataForm → BuildData → Result (List ℕ) PartCause
-data_payload form.NoKind data = Err cause.NoKind
+data_payload form.NoKind _ = Err cause.NoKind
 data_payload (form.Attributes rows) (given.Values values) = values_payload rows values.now
 data_payload (form.Attributes rows) (given.Bytes bytes) = Err cause.HasFamily
 data_payload (form.OneAttribute rows) (given.Values values) =
@@ -86,15 +86,15 @@ name_part (Some name) = there (name_payload name)
 
 -- the payload of data, if there is some
 abbrev pub data_part : DataForm → Option BuildData → Result (Option (List ℕ)) PartCause
-data_part form None = Ok None
-data_part form (Some data) = there (data_payload form data)
+data_part f None = Ok None
+data_part f (Some d) = there (data_payload f d)
 
 -- the parts of link information, with their types
 abbrev pub kind_part : BuildLink → Result (Option (List ℕ)) PartCause
 kind_part link = name_part (option_copied link.kind)
 
 abbrev pub link_data_part : BuildLink → Result (Option (List ℕ)) PartCause
-link_data_part link = data_part (data_form (option_copied link.kind)) link.data
+link_data_part link = data_part (data_form (option_copied link.kind)) link.«data»
 
 abbrev pub port_kind_part : BuildLink → Result (Option (List ℕ)) PartCause
 port_kind_part link = name_part (option_copied link.port_kind)
@@ -113,8 +113,8 @@ attributes_in kind (Err c) = []
 -- those of a name and of data
 abbrev pub pair_attributes : ℕ → ℕ → Result (Option (List ℕ)) PartCause →
     Result (Option (List ℕ)) PartCause → List Attribute
-pair_attributes name_kind data_kind name data =
-    attributes_in name_kind name ++ attributes_in data_kind data
+pair_attributes name_kind data_kind name content =
+    attributes_in name_kind name ++ attributes_in data_kind content
 
 -- those of the parts that are there, in order
 abbrev pub attributes_there : BuildLink → List Attribute
