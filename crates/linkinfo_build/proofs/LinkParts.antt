@@ -63,6 +63,7 @@ use Rattle.linkinfo_build.specs.Build.{attributes_of, bytes_in, datum_payload, e
 use Rattle.linkinfo_build.specs.Link.{
   attributes_in,
   attributes_there,
+  data_part,
   data_payload,
   kind_part,
   link_attributes,
@@ -499,12 +500,14 @@ writes_two first second old mid chunk n m k one wide two room =
     length_kept xs ys le =
         omega (arith, le, length-append xs (drop (length xs) ys), length-drop (length xs) ys)
 
--- the strings of a name and of data
-pub pair_string : (name_kind data_kind : ℕ) (name content : Result (Option (List ℕ)) PartCause) →
-    list_string (attributes_in name_kind name) ++ list_string (attributes_in data_kind content)
-    ≡ list_string (pair_attributes name_kind data_kind name content)
-pair_string name_kind data_kind name content =
-    sym (string_append (attributes_in name_kind name) (attributes_in data_kind content))
+-- the string of a name and of data, under one form of data
+pub same_pair : (name_kind data_kind : ℕ) (name : Result (Option (List ℕ)) PartCause)
+    (d : Option BuildData) (f g : DataForm) → f ≡ g →
+    list_string (pair_attributes name_kind data_kind name (data_part f d))
+    ≡ list_string (pair_attributes name_kind data_kind name (data_part g d))
+same_pair name_kind data_kind name d f g same =
+    ap (λ (h : DataForm). list_string
+    (pair_attributes name_kind data_kind name (data_part h d))) same
 
 -- what is built, if something is
 pub record Built (link : BuildLink) : Type 0 where
@@ -537,3 +540,35 @@ link_string link h =
     ∙ ap list_string (sym b.parts.are)
     ∙ ap (λ (r : Result (List Attribute) LinkBuildError). link_bytes (map_link list_string r))
     (sym b.is)
+
+pub link_size : (link : BuildLink) → IsOk (link_attributes link) →
+    length (list_string (pair_attributes 1 2 (kind_part link) (link_data_part link)))
+    + length (list_string (pair_attributes 4 5 (port_kind_part link) (port_data_part link)))
+    ≡ length (link_bytes (link_encoding link))
+link_size link h =
+    sym (length-append
+    (list_string (pair_attributes 1 2 (kind_part link) (link_data_part link)))
+    (list_string (pair_attributes 4 5 (port_kind_part link) (port_data_part link))))
+    ∙ ap length (link_string link h)
+
+pub link_short : (link : BuildLink) → IsOk (link_attributes link) →
+    length (link_bytes (link_encoding link)) ≤ 65531
+unfolding link_encoding
+link_short link h =
+    let b = built link h in
+    omega (
+      arith,
+      b.parts.short,
+      ap (λ (r : Result (List Attribute) LinkBuildError).
+      length (link_bytes (map_link list_string r))) b.is,
+    )
+
+pub link_ok : (link : BuildLink) (n : ℕ) → link_len (link_encoding link) ≡ Ok n →
+    IsOk (link_attributes link)
+unfolding link_encoding
+link_ok link n h = go (link_attributes link) h
+  where
+    go : (r : Result (List Attribute) LinkBuildError) →
+        map_link length (map_link list_string r) ≡ Ok n → IsOk r
+    go (Ok list) h = refl
+    go (Err e) h = absurd cc
