@@ -22,4 +22,6 @@ pub use link_building::{build_link, built_link_len};
 pub use value::{BuildCause, BuildDatum, BuildError, BuildValue};
 
 #[cfg(test)]
+mod link_tests;
+#[cfg(test)]
 mod tests;
