@@ -135,20 +135,21 @@ fn builds_data_of_kinds_without_a_family(rt: HostRuntime) {
     assert_built(&rt, &of_port("x", Some(BuildData::Bytes(&[]))), &wanted);
 }
 
+const PEER: [u8; 16] = [0; 16];
+
 #[test]
 fn builds_the_data_of_a_pair(rt: HostRuntime) {
-    let peer = [0; 16];
     let wanted = [
         9, 0, 1, 0, b'v', b'e', b't', b'h', 0, 0, 0, 0, // IFLA_INFO_KIND
         24, 0, 2, 0, // IFLA_INFO_DATA
         20, 0, 1, 0, 0, 0, 0, 0, 0, 0, 0, 0, 0, 0, 0, 0, 0, 0, 0, 0, // VETH_INFO_PEER
     ];
-    let one = [raw(1, &peer)];
+    let one = [raw(1, &PEER)];
     assert_built(&rt, &of_kind("veth", Some(BuildData::Values(&one))), &wanted);
     let data = LinkPart::Data;
     let none = of_kind("veth", Some(BuildData::Values(&[])));
     assert_refused(&rt, &none, data, PartCause::NotOne);
-    let two = [raw(1, &peer), raw(1, &peer)];
+    let two = [raw(1, &PEER), raw(1, &PEER)];
     let both = of_kind("vxcan", Some(BuildData::Values(&two)));
     assert_refused(&rt, &both, data, PartCause::NotOne);
 }
