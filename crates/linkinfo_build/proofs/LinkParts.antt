@@ -40,13 +40,7 @@ use Rattle.std.proofs.lemmas.List.{append-nil, length-append, length-drop}
 use Rattle.std.proofs.lemmas.List.Concat.{flat_map-append}
 use borrow.Rule.Slice.PartMut.{put_mid}
 use denote.Ref.{Bor}
-use Rattle.nla_frame.specs.Attribute.{
-  Attribute,
-  aligned,
-  buffer_len_of,
-  canonical_string,
-  list_string,
-}
+use Rattle.nla_frame.specs.Attribute.{Attribute, buffer_len_of, canonical_string, list_string}
 use Rattle.nla_frame.specs.Writing.{Writes, WritesAttribute}
 use Rattle.nla_frame.proofs.Emitting.{
   Written,
@@ -56,8 +50,7 @@ use Rattle.nla_frame.proofs.Emitting.{
   length-list_string-cons,
   write_text,
 }
-use Rattle.linkinfo_shapes.specs.Data.{text, unwrap, written}
-use Rattle.linkinfo_shapes.specs.Shapes.{canon}
+use Rattle.linkinfo_shapes.specs.Data.{text, written}
 use Rattle.linkinfo_shapes.specs.declared.shape.Shape.TheVariants.{Name}
 use Rattle.linkinfo_build.specs.Build.{attributes_of, bytes_in, datum_payload, encoding, map_ok}
 use Rattle.linkinfo_build.specs.Link.{
@@ -148,7 +141,8 @@ mapped_twice (Ok list) = refl
 mapped_twice (Err e) = refl
 
 -- the lengths of the parts give that of the whole
-pub whole_measured : (link : BuildLink) (kind content port_kind port_data : Result (Option ℕ) PartCause) →
+pub whole_measured : (link : BuildLink)
+    (kind content port_kind port_data : Result (Option ℕ) PartCause) →
     kind ≡ part_len (kind_part link) → content ≡ part_len (link_data_part link) →
     port_kind ≡ part_len (port_kind_part link) → port_data ≡ part_len (port_data_part link) →
     with_part_len
@@ -216,7 +210,8 @@ grows (Ok first) part kind (Ok None) all h =
       are = sym same ∙ sym (append-nil first);
       short = λ low. omega (arith, low, ap size_of same);
     }
-grows (Ok first) part kind (Ok (Some p)) all h = go (nat_le (size_of first + buffer_len_of a) 65531) refl h
+grows (Ok first) part kind (Ok (Some p)) all h =
+    go (nat_le (size_of first + buffer_len_of a) 65531) refl h
   where
     a : Attribute
     a = record { kind = kind; value = p }
@@ -476,7 +471,8 @@ writes_two first second old mid chunk n m k one wide two room =
       written = ap (λ (b : List ℕ). b ++ second) front;
     } in
     let size : length mid ≡ length old =
-    ap length one.written ∙ length_kept first old (omega (arith, room, length-append first second)) in
+    ap length one.written
+    ∙ length_kept first old (omega (arith, room, length-append first second)) in
     let after =
     write_text (first ++ second) second second [] n old mid before (sym (append-nil second))
     (omega (arith, room, size)) m two.taken k wide chunk
@@ -560,7 +556,7 @@ link_short link h =
       arith,
       b.parts.short,
       ap (λ (r : Result (List Attribute) LinkBuildError).
-      length (link_bytes (map_link list_string r))) b.is,
+          length (link_bytes (map_link list_string r))) b.is,
     )
 
 pub link_ok : (link : BuildLink) (n : ℕ) → link_len (link_encoding link) ≡ Ok n →

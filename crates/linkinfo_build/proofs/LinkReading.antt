@@ -1,36 +1,5 @@
 -- What is built of link information is framed as its attributes, and its data reads back.
-use Rattle.std.proofs.Common.{
-  ◌≡◌,
-  ◌+◌,
-  ◌<◌,
-  ◌≤◌,
-  ◌++◌,
-  ℕ,
-  Bool,
-  true,
-  false,
-  cond,
-  nat_eq,
-  List,
-  [],
-  ◌∷◌,
-  length,
-  map,
-  Option,
-  Some,
-  None,
-  Result,
-  Ok,
-  Err,
-  IsOk,
-  is_ok,
-  refl,
-  sym,
-  ap,
-  subst,
-  ◌∙◌,
-  arith,
-}
+use Rattle.std.proofs.Common.{◌≡◌, ◌<◌, ◌≤◌, ◌++◌, ℕ, Bool, true, false, cond, nat_eq, List, [], ◌∷◌, length, map, Option, Some, None, Result, Ok, Err, is_ok, refl, sym, ap, subst, ◌∙◌, arith}
 use Rattle.std.proofs.lemmas.Bool.{eqb-true}
 use Rattle.std.specs.List.{AllByRecursion}
 use Rattle.nla_frame.specs.Attribute.{Attribute, IsAttribute, IsBytes, list_string}
@@ -39,25 +8,7 @@ use Rattle.nla_frame.proofs.ByteLists.{IsBytes-append, IsBytes-list_string, IsBy
 use Rattle.nla_frame.proofs.Emitting.{length-list_string-cons}
 use Rattle.nla_frame.proofs.Stepping.{nla_items-list_string}
 use Rattle.linkinfo_build.specs.Build.{encoding}
-use Rattle.linkinfo_build.specs.Link.{
-  attributes_in,
-  attributes_there,
-  data_part,
-  data_payload,
-  kind_part,
-  link_attributes,
-  link_data_part,
-  link_encoding,
-  map_link,
-  name_part,
-  name_payload,
-  of_values,
-  pair_attributes,
-  port_data_part,
-  port_kind_part,
-  there,
-  values_payload,
-}
+use Rattle.linkinfo_build.specs.Link.{attributes_in, data_part, data_payload, kind_part, link_attributes, link_data_part, link_encoding, map_link, name_part, name_payload, of_values, pair_attributes, port_data_part, port_kind_part, there, values_payload}
 use Rattle.linkinfo_build.specs.Forms.{data_form, port_data_form}
 use Rattle.linkinfo_build.specs.LinkLaws.{
   IsDataIf,
@@ -79,8 +30,7 @@ use Rattle.linkinfo_build.specs.declared.rows.Rows.{Rows}
 use Rattle.linkinfo_build.specs.declared.value.BuildError.{BuildError}
 use Rattle.linkinfo_build.specs.declared.value.BuildValue.{BuildValue}
 use Rattle.std.specs.Option.{option_copied}
-use denote.Ref.{Bor}
-use Rattle.linkinfo_build.proofs.LinkParts.{IsBuilt, as_bytes, is_built, name_fits}
+use Rattle.linkinfo_build.proofs.LinkParts.{as_bytes, is_built, name_fits}
 use Rattle.linkinfo_build.proofs.Reading.{canonical_list, encodes, items_are, values_are, whole}
 
 good_same : (p q : List ℕ) → (let r : Result (List ℕ) PartCause = Ok p in r) ≡ Ok q → p ≡ q

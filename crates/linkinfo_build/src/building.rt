@@ -20,7 +20,8 @@ use nla_frame::Family;
 /// How many lists may be inside one another.
 const DEPTH_MAX: usize = 8;
 
-/// The length of the encoding of values as a list of attributes with these rows, or the first error.
+/// The length of the encoding of values as a list of attributes with these rows, or the first value
+/// that is refused.
 #[tactic(auto, unfolding(crate::specs::Build::encoding, crate::specs::Build::attributes_of))]
 pub fn values_len(rows: Rows, values: &[BuildValue<'_>]) -> Result<usize, BuildError>
     ensures answer { result ≡ measured (encoding rows values.now) }

@@ -46,9 +46,9 @@ pub fn built(values: &[BuildValue<'_>])
     held(values);
 }
 
-/// What is built of link information: at most 65531 bytes, which frame exactly the attributes of the
-/// parts that are there, in order. The payload of data is the canonical encoding of its values, and
-/// reading it returns them; or it is the bytes that were given. So is that of port data.
+/// What is built of link information: at most 65531 bytes, which frame exactly the attributes of
+/// the parts that are there, in order. The payload of data is the canonical encoding of its values,
+/// and reading it returns them; or it is the bytes that were given. So is that of port data.
 pub fn built_link(link: &BuildLink<'_>)
     ensures bytes { (string : List ℕ) →
         link_encoding link.now ≡ Ok string → IsBytes string }

@@ -118,7 +118,13 @@ fn write_link(link: &BuildLink<'_>, buffer: &mut [u8]) -> usize
     let at = write_pair(LINK_KINDS, link.kind, form, &link.data, buffer);
     let form = port_data_form(link.port_kind);
     let port_data = &link.port_data;
-    at + write_pair(PORT_KINDS, link.port_kind, form, port_data, &mut buffer[at..])
+    at + write_pair(
+        PORT_KINDS,
+        link.port_kind,
+        form,
+        port_data,
+        &mut buffer[at..],
+    )
 }
 
 /// Writes the canonical encoding of link information, the contents of `IFLA_LINKINFO`, at the front

@@ -145,7 +145,11 @@ fn builds_the_data_of_a_pair(rt: HostRuntime) {
         20, 0, 1, 0, 0, 0, 0, 0, 0, 0, 0, 0, 0, 0, 0, 0, 0, 0, 0, 0, // VETH_INFO_PEER
     ];
     let one = [raw(1, &PEER)];
-    assert_built(&rt, &of_kind("veth", Some(BuildData::Values(&one))), &wanted);
+    assert_built(
+        &rt,
+        &of_kind("veth", Some(BuildData::Values(&one))),
+        &wanted,
+    );
     let data = LinkPart::Data;
     let none = of_kind("veth", Some(BuildData::Values(&[])));
     assert_refused(&rt, &none, data, PartCause::NotOne);
@@ -216,7 +220,12 @@ fn refuses_data_of_the_other_form(rt: HostRuntime) {
     assert_refused(&rt, &of_port("vrf", bytes), port_data, PartCause::HasFamily);
     assert_refused(&rt, &of_kind("dummy", values), data, PartCause::NoFamily);
     assert_refused(&rt, &of_kind("Vxlan", values), data, PartCause::NoFamily);
-    assert_refused(&rt, &of_port("vxlan", values), port_data, PartCause::NoFamily);
+    assert_refused(
+        &rt,
+        &of_port("vxlan", values),
+        port_data,
+        PartCause::NoFamily,
+    );
 }
 
 #[test]
@@ -265,6 +274,11 @@ fn families_by_name(rt: HostRuntime) {
     assert_is(&rt, "gretap", family_of_kind("gretap"), Some(Family::Gre));
     assert_is(&rt, "rmnet", family_of_kind("rmnet"), Some(Family::RmNet));
     assert_is(&rt, "dummy", family_of_kind("dummy"), None);
-    assert_is(&rt, "bond", family_of_port_kind("bond"), Some(Family::BondPort));
+    assert_is(
+        &rt,
+        "bond",
+        family_of_port_kind("bond"),
+        Some(Family::BondPort),
+    );
     assert_is(&rt, "vxlan", family_of_port_kind("vxlan"), None);
 }

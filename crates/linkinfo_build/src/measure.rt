@@ -158,11 +158,7 @@ fn inside_len(depth: usize, rows: Rows, values: &[BuildValue<'_>]) -> Result<usi
 
 /// The length of a list of these values, where lists may be so many deep in it; or the first error.
 #[cycle(measure)]
-pub fn list_len(
-    depth: usize,
-    rows: Rows,
-    values: &[BuildValue<'_>],
-) -> Result<usize, BuildError>
+pub fn list_len(depth: usize, rows: Rows, values: &[BuildValue<'_>]) -> Result<usize, BuildError>
     ensures answer { result ≡ measured_list (attributes_up_to depth rows values.now) }
     ensures short { IfOk result (λ len. len ≤ 65531) }
     ensures index { IfErr result (λ e. e.index < length values.now) }

@@ -96,10 +96,7 @@ fn data_payload_len(form: DataForm, content: &BuildData<'_>) -> Result<usize, Pa
 }
 
 /// The length of the payload of data of this form, if there is some.
-pub fn data_len(
-    form: DataForm,
-    content: &Option<BuildData<'_>>,
-) -> Result<Option<usize>, PartCause>
+pub fn data_len(form: DataForm, content: &Option<BuildData<'_>>) -> Result<Option<usize>, PartCause>
     ensures answer { result ≡ part_len (data_part form content.now) }
     ensures short { IfOk result (λ payload. IfSome payload (λ len. len ≤ 65531)) }
 {
@@ -205,7 +202,8 @@ pub fn write_data(
     buffer: &mut [u8],
 ) -> usize
     requires fits { IsOk (data_part form content.now) }
-    requires short { length (list_string (attributes_in kind (data_part form content.now))) ≤ 65531 }
+    requires short { length (list_string (attributes_in kind (data_part form content.now)))
+        ≤ 65531 }
     requires room { length (list_string (attributes_in kind (data_part form content.now)))
         ≤ length buffer.old }
     ensures { Writes (list_string (attributes_in kind (data_part form content.now)))

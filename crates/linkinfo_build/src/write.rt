@@ -104,12 +104,7 @@ fn write_value(
 
 /// Writes a list of these values at the front of the buffer, and returns its length.
 #[cycle(write)]
-pub fn write_list(
-    depth: usize,
-    rows: Rows,
-    values: &[BuildValue<'_>],
-    buffer: &mut [u8],
-) -> usize
+pub fn write_list(depth: usize, rows: Rows, values: &[BuildValue<'_>], buffer: &mut [u8]) -> usize
     requires fits { IsOk (attributes_up_to depth rows values.now) }
     requires room { length (bytes_in (map_ok list_string
         (attributes_up_to depth rows values.now))) ≤ length buffer.old }

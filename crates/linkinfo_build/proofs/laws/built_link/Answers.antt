@@ -1,11 +1,5 @@
 use Rattle.linkinfo_build.proofs.LinkParts.{is_built}
-use Rattle.linkinfo_build.proofs.LinkReading.{
-  IsHeldLink,
-  data_part_is,
-  link_framed,
-  string_bytes,
-  string_short,
-}
+use Rattle.linkinfo_build.proofs.LinkReading.{data_part_is, link_framed, string_bytes, string_short}
 use Rattle.linkinfo_build.proofs.laws.built_link.Goals as goal
 
 pub returns-clause-bytes : goal.returns-clause-bytes

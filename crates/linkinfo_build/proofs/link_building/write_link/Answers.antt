@@ -1,24 +1,8 @@
-use Rattle.std.proofs.Common.{
-  ◌++◌,
-  ◌-◌,
-  ◌≤◌,
-  ◌∙◌,
-  IsOk,
-  List,
-  ap,
-  arith,
-  length,
-  refl,
-  subst,
-  sym,
-  ℕ,
-  ◌+◌,
-}
-use Rattle.std.proofs.lemmas.List.{length-append, length-drop, take_rest}
+use Rattle.std.proofs.Common.{◌++◌, ◌-◌, ◌∙◌, IsOk, List, ap, arith, length, refl, subst, sym, ℕ, ◌+◌}
+use Rattle.std.proofs.lemmas.List.{length-drop, take_rest}
 use borrow.Rule.Slice.PartMut.{put_mid}
-use Rattle.nla_frame.specs.Attribute.{list_string}
 use Rattle.nla_frame.specs.Writing.{Writes}
-use Rattle.linkinfo_build.specs.Link.{data_part, kind_part, pair_attributes, port_kind_part}
+use Rattle.linkinfo_build.specs.Link.{data_part, kind_part, port_kind_part}
 use Rattle.linkinfo_build.specs.declared.forms.DataForm.{DataForm}
 use Rattle.linkinfo_build.proofs.LinkParts.{
   built,
@@ -42,7 +26,7 @@ pub write_pair-at-requires-clause-short : goal.write_pair-at-requires-clause-sho
 write_pair-at-requires-clause-short c = omega (
   arith,
   ap length (same_pair 1 2 (kind_part c.args.link.now) c.args.link.now.«data» _ _
-  c.data_form-form.ensures),
+      c.data_form-form.ensures),
   link_size c.args.link.now c.requires.fits,
   link_short c.args.link.now c.requires.fits,
 )
@@ -51,7 +35,7 @@ pub write_pair-at-requires-clause-room : goal.write_pair-at-requires-clause-room
 write_pair-at-requires-clause-room c = omega (
   arith,
   ap length (same_pair 1 2 (kind_part c.args.link.now) c.args.link.now.«data» _ _
-  c.data_form-form.ensures),
+      c.data_form-form.ensures),
   link_size c.args.link.now c.requires.fits,
   c.requires.room,
 )
@@ -68,7 +52,7 @@ pub write_pair-requires-clause-short : goal.write_pair-requires-clause-short
 write_pair-requires-clause-short c = omega (
   arith,
   ap length (same_pair 4 5 (port_kind_part c.args.link.now) c.args.link.now.port_data _ _
-  c.port_data_form-form.ensures),
+      c.port_data_form-form.ensures),
   link_size c.args.link.now c.requires.fits,
   link_short c.args.link.now c.requires.fits,
 )
@@ -77,9 +61,9 @@ pub write_pair-requires-clause-room : goal.write_pair-requires-clause-room
 write_pair-requires-clause-room c = omega (
   arith,
   ap length (same_pair 1 2 (kind_part c.args.link.now) c.args.link.now.«data» _ _
-  c.data_form-form.ensures),
+      c.data_form-form.ensures),
   ap length (same_pair 4 5 (port_kind_part c.args.link.now) c.args.link.now.port_data _ _
-  c.port_data_form-form.ensures),
+      c.port_data_form-form.ensures),
   link_size c.args.link.now c.requires.fits,
   c.requires.room,
   c.write_pair-at.ensures.taken,

@@ -1,6 +1,6 @@
-use Rattle.std.proofs.Common.{◌≡◌, ◌≤◌, IsOk, List, Result, ap, length, subst, sym, ℕ}
+use Rattle.std.proofs.Common.{◌≤◌, IsOk, List, Result, length, subst, sym, ℕ}
 use Rattle.nla_frame.specs.Writing.{Writes}
-use Rattle.linkinfo_build.specs.Link.{data_payload, payload_bytes}
+use Rattle.linkinfo_build.specs.Link.{payload_bytes}
 use Rattle.linkinfo_build.specs.declared.link.PartCause.{PartCause}
 use Rattle.linkinfo_build.proofs.LinkParts.{as_bytes, as_listed, as_one_listed, no_bytes, no_kind}
 use Rattle.linkinfo_build.proofs.parts.write_data_payload.Goals as goal

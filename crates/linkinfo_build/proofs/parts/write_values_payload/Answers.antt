@@ -1,4 +1,3 @@
-use Rattle.std.proofs.Common.{◌≤◌, List, length, subst, sym, ℕ}
 use Rattle.linkinfo_build.proofs.LinkParts.{listed}
 use Rattle.linkinfo_build.proofs.parts.write_values_payload.Goals as goal
 
