@@ -1,5 +1,34 @@
 -- What is built of link information is framed as its attributes, and its data reads back.
-use Rattle.std.proofs.Common.{◌≡◌, ◌<◌, ◌≤◌, ◌++◌, ℕ, Bool, true, false, cond, nat_eq, List, [], ◌∷◌, length, map, Option, Some, None, Result, Ok, Err, is_ok, refl, sym, ap, subst, ◌∙◌, arith}
+use Rattle.std.proofs.Common.{
+  ◌≡◌,
+  ◌<◌,
+  ◌≤◌,
+  ◌++◌,
+  ℕ,
+  Bool,
+  true,
+  false,
+  cond,
+  nat_eq,
+  List,
+  [],
+  ◌∷◌,
+  length,
+  map,
+  Option,
+  Some,
+  None,
+  Result,
+  Ok,
+  Err,
+  is_ok,
+  refl,
+  sym,
+  ap,
+  subst,
+  ◌∙◌,
+  arith,
+}
 use Rattle.std.proofs.lemmas.Bool.{eqb-true}
 use Rattle.std.specs.List.{AllByRecursion}
 use Rattle.nla_frame.specs.Attribute.{Attribute, IsAttribute, IsBytes, list_string}
@@ -8,7 +37,24 @@ use Rattle.nla_frame.proofs.ByteLists.{IsBytes-append, IsBytes-list_string, IsBy
 use Rattle.nla_frame.proofs.Emitting.{length-list_string-cons}
 use Rattle.nla_frame.proofs.Stepping.{nla_items-list_string}
 use Rattle.linkinfo_build.specs.Build.{encoding}
-use Rattle.linkinfo_build.specs.Link.{attributes_in, data_part, data_payload, kind_part, link_attributes, link_data_part, link_encoding, map_link, name_part, name_payload, of_values, pair_attributes, port_data_part, port_kind_part, there, values_payload}
+use Rattle.linkinfo_build.specs.Link.{
+  attributes_in,
+  data_part,
+  data_payload,
+  kind_part,
+  link_attributes,
+  link_data_part,
+  link_encoding,
+  map_link,
+  name_part,
+  name_payload,
+  of_values,
+  pair_attributes,
+  port_data_part,
+  port_kind_part,
+  there,
+  values_payload,
+}
 use Rattle.linkinfo_build.specs.Forms.{data_form, port_data_form}
 use Rattle.linkinfo_build.specs.LinkLaws.{
   IsDataIf,

@@ -1,4 +1,18 @@
-use Rattle.std.proofs.Common.{◌++◌, ◌-◌, ◌∙◌, IsOk, List, ap, arith, length, refl, subst, sym, ℕ, ◌+◌}
+use Rattle.std.proofs.Common.{
+  ◌++◌,
+  ◌-◌,
+  ◌∙◌,
+  IsOk,
+  List,
+  ap,
+  arith,
+  length,
+  refl,
+  subst,
+  sym,
+  ℕ,
+  ◌+◌,
+}
 use Rattle.std.proofs.lemmas.List.{length-drop, take_rest}
 use borrow.Rule.Slice.PartMut.{put_mid}
 use Rattle.nla_frame.specs.Writing.{Writes}
