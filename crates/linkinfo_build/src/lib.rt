@@ -1,4 +1,5 @@
-//! Builds lists of attributes: values in, the one canonical encoding out, without memory.
+//! Builds lists of attributes and link information: values in, the one canonical encoding out,
+//! without memory.
 #![tactic(auto)]
 
 mod building;
