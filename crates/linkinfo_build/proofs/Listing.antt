@@ -41,7 +41,6 @@ use Rattle.nla_frame.specs.Attribute.{
   canonical_string,
   list_string,
 }
-use Rattle.nla_frame.specs.declared.error.Family.{Family}
 use borrow.Rule.Slice.PartMut.{put_mid}
 use Rattle.nla_frame.proofs.Emitting.{
   Written,
@@ -67,6 +66,7 @@ use Rattle.linkinfo_build.specs.Build.{
   refused,
   with_first,
 }
+use Rattle.linkinfo_build.specs.declared.rows.Rows.{Rows}
 use Rattle.linkinfo_build.specs.declared.value.BuildCause.TheVariants as cause
 use Rattle.linkinfo_build.specs.declared.value.BuildDatum.TheVariants as given
 use Rattle.linkinfo_build.specs.declared.value.BuildError.{BuildError}
@@ -87,7 +87,7 @@ moved_twice a b (Err e) =
     let same : a + (b + e.index) ≡ (a + b) + e.index = omega arith in
     ap (λ (n : ℕ). Err (record { index = n; cause = e.cause })) same
 
-module _ (inside : Family → List BuildValue → Result (List ℕ) BuildError) (f : Family) where
+module _ (inside : Rows → List BuildValue → Result (List ℕ) BuildError) (f : Rows) where
   abbrev listed : ℕ → List BuildValue → Result (List Attribute) BuildError
   listed used values = attributes_with inside f used 0 values
 
@@ -209,7 +209,7 @@ has_error (Err d) e h = ap (λ (x : BuildError). Err x) (same d e h)
 
 -- ---- one step of the loop that measures
 
-module _ (inside : Family → List BuildValue → Result (List ℕ) BuildError) (f : Family)
+module _ (inside : Rows → List BuildValue → Result (List ℕ) BuildError) (f : Rows)
     (values : List BuildValue) (at total : ℕ) (d : BuildValue) (more : at < length values)
     (later : List BuildValue) (behind : later ≡ drop (at + 1) values) where
   abbrev here : BuildValue
@@ -279,7 +279,7 @@ module _ (inside : Family → List BuildValue → Result (List ℕ) BuildError) 
 -- ---- a list that has an encoding
 
 -- its first value
-pub record Goes (inside : Family → List BuildValue → Result (List ℕ) BuildError) (f : Family)
+pub record Goes (inside : Rows → List BuildValue → Result (List ℕ) BuildError) (f : Rows)
     (used : ℕ) (v : BuildValue) (more : List BuildValue) : Type 0 where
   pub payload : IsOk (payload_with inside f v more)
   pub fits : used + buffer_len_of (attribute_of f v (bytes_in (payload_with inside f v more)))
@@ -291,7 +291,7 @@ pub record Goes (inside : Family → List BuildValue → Result (List ℕ) Build
       (used + buffer_len_of (attribute_of f v (bytes_in (payload_with inside f v more)))) 0
       (drop (inside_count v.value) more)))
 
-pub goes : (inside : Family → List BuildValue → Result (List ℕ) BuildError) (f : Family)
+pub goes : (inside : Rows → List BuildValue → Result (List ℕ) BuildError) (f : Rows)
     (used : ℕ) (v : BuildValue) (more : List BuildValue) →
     IsOk (attributes_with inside f used 0 (v ∷ more)) → Goes inside f used v more
 goes inside f used v more h = by (payload_with inside f v more) refl
@@ -336,7 +336,7 @@ goes inside f used v more h = by (payload_with inside f v more) refl
                 IsOk (attributes_with inside f used 0 (v ∷ more)) → ⊥
             none e k = absurd cc
 
-module _ (inside : Family → List BuildValue → Result (List ℕ) BuildError) (f : Family)
+module _ (inside : Rows → List BuildValue → Result (List ℕ) BuildError) (f : Rows)
     (values : List BuildValue) (at used : ℕ) (d : BuildValue) (more : at < length values)
     (later : List BuildValue) (behind : later ≡ drop (at + 1) values)
     (fits : IsOk (attributes_with inside f used 0 (drop at values))) where
@@ -429,7 +429,7 @@ module _ (inside : Family → List BuildValue → Result (List ℕ) BuildError) 
 
 -- ---- a list in a list
 
-module _ (f : Family) (vs : List BuildValue) where
+module _ (f : Rows) (vs : List BuildValue) where
   deeper : (k : ℕ) → 0 < k →
       list_up_to k f vs ≡ after 1 (map_ok list_string (attributes_up_to (k - 1) f vs))
   unfolding list_up_to
@@ -460,7 +460,7 @@ module _ (f : Family) (vs : List BuildValue) where
       ≡ bytes_in (map_ok list_string (attributes_up_to (k - 1) f vs))
   inside_bytes k some = ap bytes_in (deeper k some) ∙ bytes_inside (attributes_up_to (k - 1) f vs)
 
-pub none_at_zero : (f : Family) (vs : List BuildValue) (k : ℕ) → k ≡ 0 →
+pub none_at_zero : (f : Rows) (vs : List BuildValue) (k : ℕ) → k ≡ 0 →
     IsOk (list_up_to k f vs) → ⊥
 unfolding list_up_to
 none_at_zero f vs zero e h = absurd cc

@@ -29,12 +29,9 @@ use Rattle.std.proofs.Common.{
 }
 use Rattle.std.proofs.lemmas.Bool.{leb-true, ltb-false}
 use denote.Ref.{Bor}
-use Rattle.nla_frame.specs.declared.error.Family.{Family}
 use Rattle.linkinfo_shapes.specs.Data.{Suits, Value, value_of, written}
-use Rattle.linkinfo_shapes.specs.Typed.{typed_shape_of}
 use Rattle.linkinfo_shapes.specs.declared.datum.Datum.{Datum}
 use Rattle.linkinfo_shapes.specs.declared.shape.Shape.{Shape}
-use Rattle.linkinfo_names.specs.Standing.{family_in}
 use Rattle.linkinfo_build.specs.Build.{
   datum_payload,
   inside_count,
@@ -48,7 +45,9 @@ use Rattle.linkinfo_build.specs.Build.{
   short,
 }
 use Rattle.linkinfo_build.specs.Bytes.{is_canonical_payload}
+use Rattle.linkinfo_build.specs.Rows.{rows_in, shape_in}
 use Rattle.linkinfo_build.specs.Suits.{is_suited}
+use Rattle.linkinfo_build.specs.declared.rows.Rows.{Rows}
 use Rattle.linkinfo_build.specs.declared.value.BuildCause.{BuildCause}
 use Rattle.linkinfo_build.specs.declared.value.BuildCause.TheVariants as cause
 use Rattle.linkinfo_build.specs.declared.value.BuildDatum.{BuildDatum}
@@ -102,13 +101,13 @@ raw_written (Some shape) bytes h =
 
 -- ---- any value
 
-module _ (inside : Family → List BuildValue → Result (List ℕ) BuildError) (f : Family)
+module _ (inside : Rows → List BuildValue → Result (List ℕ) BuildError) (f : Rows)
     (v : BuildValue) (more : List BuildValue) where
   abbrev payload : Result (List ℕ) BuildError
   payload = payload_with inside f v more
 
   abbrev within : BuildDatum → Result (List ℕ) BuildError
-  within value = payload_in inside f (typed_shape_of f v.kind) value more
+  within value = payload_in inside f (shape_in f v.kind) value more
 
   no_flags : IsOk payload → (v.kind < 16384) × (payload ≡ within v.value)
   unfolding payload_with
@@ -130,9 +129,9 @@ module _ (inside : Family → List BuildValue → Result (List ℕ) BuildError) 
   follow : (value : BuildDatum) → IsOk (within value) → inside_count value ≤ length more
   follow (given.Datum d) h = omega arith
   follow (given.Raw bytes) h = omega arith
-  follow (given.List n) h = counted (typed_shape_of f v.kind) h
+  follow (given.List n) h = counted (shape_in f v.kind) h
     where
-      by : (inner : Option Family) →
+      by : (inner : Option Rows) →
           IsOk (list_payload inside (opened_by inner n (length more)) n more) → n ≤ length more
       by None h = absurd cc
       by (Some inner) h = go (nat_le n (length more)) refl h
@@ -146,12 +145,12 @@ module _ (inside : Family → List BuildValue → Result (List ℕ) BuildError) 
       counted : (shape : Option Shape) →
           IsOk (list_payload inside (opened f shape n (length more)) n more) → n ≤ length more
       counted None h = absurd cc
-      counted (Some shape) h = by (family_in f (Some shape)) h
+      counted (Some shape) h = by (rows_in f (Some shape)) h
 
   pub few : IsOk payload → inside_count v.value ≤ length more
   few h = follow v.value (subst (λ (r : Result (List ℕ) BuildError). IsOk r) (no_flags h).1 h)
 
-  pub by_datum : IsOk payload → (shape : Option Shape) → shape ≡ typed_shape_of f v.kind →
+  pub by_datum : IsOk payload → (shape : Option Shape) → shape ≡ shape_in f v.kind →
       (d : Datum) → v.value ≡ given.Datum d → payload ≡ datum_payload shape (value_of d)
   by_datum h shape same d is =
       as_given h (given.Datum d) is
@@ -162,10 +161,10 @@ module _ (inside : Family → List BuildValue → Result (List ℕ) BuildError) 
   by_raw h bytes is =
       let e = as_given h (given.Raw bytes) is in
       e
-      ∙ (raw_written (typed_shape_of f v.kind) bytes.now
+      ∙ (raw_written (shape_in f v.kind) bytes.now
       (subst (λ (r : Result (List ℕ) BuildError). IsOk r) e h)).is
 
-  module _ (h : IsOk payload) (shape : Option Shape) (same : shape ≡ typed_shape_of f v.kind)
+  module _ (h : IsOk payload) (shape : Option Shape) (same : shape ≡ shape_in f v.kind)
       (n : ℕ) (is : v.value ≡ given.List n) where
     by_list : payload ≡ list_payload inside (opened f shape n (length more)) n more
     by_list =
@@ -173,15 +172,15 @@ module _ (inside : Family → List BuildValue → Result (List ℕ) BuildError) 
         ∙ ap (λ (s : Option Shape). list_payload inside (opened f s n (length more)) n more)
         (sym same)
 
-    pub into_list : (inner : Family) → opened f shape n (length more) ≡ Ok inner →
+    pub into_list : (inner : Rows) → opened f shape n (length more) ≡ Ok inner →
         payload ≡ inside inner (take n more)
     into_list inner e =
-        by_list ∙ ap (λ (r : Result Family BuildError). list_payload inside r n more) e
+        by_list ∙ ap (λ (r : Result Rows BuildError). list_payload inside r n more) e
 
     pub no_error : (e : BuildError) → opened f shape n (length more) ≡ Err e → ⊥
     no_error e k =
         refuse
-        (by_list ∙ ap (λ (r : Result Family BuildError). list_payload inside r n more) k) h
+        (by_list ∙ ap (λ (r : Result Rows BuildError). list_payload inside r n more) k) h
       where
         refuse : payload ≡ Err e → IsOk payload → ⊥
         refuse x y = absurd cc

@@ -55,7 +55,6 @@ use Rattle.nla_frame.specs.Attribute.{
 }
 use Rattle.nla_frame.specs.NlaItems.{nla_items, nla_items_of}
 use Rattle.nla_frame.specs.declared.error.Cause.{Cause}
-use Rattle.nla_frame.specs.declared.error.Family.{Family}
 use Rattle.nla_frame.proofs.ByteLists.{IsBytes-list_string}
 use Rattle.nla_frame.proofs.Emitting.{length-list_string-cons}
 use Rattle.nla_frame.proofs.Stepping.{nla_items-list_string}
@@ -85,7 +84,6 @@ use Rattle.linkinfo_shapes.specs.Data.{
 use Rattle.linkinfo_shapes.specs.DataLaws.{canonical_is, suits_plain, wrap-unwrap, written_is}
 use Rattle.linkinfo_shapes.specs.ShapeLaws.{IsBytes-canon, means-canon}
 use Rattle.linkinfo_shapes.specs.Shapes.{Carrier, Holds, IsAccepted, IsPlain, means}
-use Rattle.linkinfo_shapes.specs.Typed.{typed_shape_of}
 use Rattle.linkinfo_shapes.specs.declared.shape.Shape.{Shape}
 use Rattle.linkinfo_shapes.specs.declared.shape.Shape.TheVariants.{
   U8,
@@ -123,7 +121,6 @@ use Rattle.linkinfo_shapes.specs.declared.shape.Shape.TheVariants.{
   V4List,
   V6List,
 }
-use Rattle.linkinfo_names.specs.Standing.{family_in}
 use Rattle.linkinfo_build.specs.Build.{
   after,
   attribute_of,
@@ -147,6 +144,8 @@ use Rattle.linkinfo_build.specs.Build.{
   short,
   with_first,
 }
+use Rattle.linkinfo_build.specs.Rows.{rows_in, shape_in}
+use Rattle.linkinfo_build.specs.declared.rows.Rows.{Rows}
 use Rattle.linkinfo_build.specs.declared.value.BuildCause.TheVariants as cause
 use Rattle.linkinfo_build.specs.Bytes.{is_canonical_payload}
 use Rattle.linkinfo_build.specs.Canonical.{
@@ -189,7 +188,7 @@ use Rattle.linkinfo_build.proofs.Payloads.{
 
 -- ---- types
 
-module _ (f : Family) (kind : ℕ) (small : kind < 16384) where
+module _ (f : Rows) (kind : ℕ) (small : kind < 16384) where
   flagged : (b : Bool) → (cond b (kind + 32768) kind < 65536)
   flagged true = omega (arith, small)
   flagged false = omega (arith, small)
@@ -200,11 +199,11 @@ module _ (f : Family) (kind : ℕ) (small : kind < 16384) where
 
   pub kind_fits : kind_written f kind < 65536
   unfolding kind_written
-  kind_fits = flagged (list_any (nat_eq kind) (flagged_rows f))
+  kind_fits = flagged (list_any (nat_eq kind) (flagged_rows f.family))
 
   pub kind_back : masked (kind_written f kind) ≡ kind
   unfolding kind_written
-  kind_back = masked_again (list_any (nat_eq kind) (flagged_rows f))
+  kind_back = masked_again (list_any (nat_eq kind) (flagged_rows f.family))
 
 -- ---- data
 
@@ -296,15 +295,15 @@ fine_again shape value s h =
       exact = λ no. absurd (no (suits_plain shape value s));
     }
 
-plain_alone : (f : Family) (shape : Shape) → IsPlain shape → family_in f (Some shape) ≡ None
+plain_alone : (f : Rows) (shape : Shape) → IsPlain shape → rows_in f (Some shape) ≡ None
 plain_alone f SelfList h = absurd h
 plain_alone f (Nested inner) h = absurd h
 plain_alone f _ h = refl
 
 -- ---- bytes
 
-raw_alone : (f : Family) (shape : Shape) (p : List ℕ) → is_canonical_payload shape p ≡ true →
-    family_in f (Some shape) ≡ None
+raw_alone : (f : Rows) (shape : Shape) (p : List ℕ) → is_canonical_payload shape p ≡ true →
+    rows_in f (Some shape) ≡ None
 unfolding is_canonical_payload
 raw_alone f SelfList p h = absurd cc
 raw_alone f (Nested inner) p h = absurd cc
@@ -365,25 +364,25 @@ held_drop (suc n) [] h = tt
 held_drop (suc n) (v ∷ more) h = held_drop n more h.1
 
 -- a payload reads as these entries
-record ReadsBack (Fine : Family → List ℕ → Type 0) (read : Family → List ℕ → List Entry)
-    (f : Family) (k : ℕ) (shape : Option Shape) (p : List ℕ) (entries : List Entry) : Type 0 where
+record ReadsBack (Fine : Rows → List ℕ → Type 0) (read : Rows → List ℕ → List Entry)
+    (f : Rows) (k : ℕ) (shape : Option Shape) (p : List ℕ) (entries : List Entry) : Type 0 where
   pub is_bytes : IsBytes p
-  pub fine : IsCanonicalPayload Fine (family_in f shape) shape p
-  pub reads_as : entries_of read k (family_in f shape) shape p ≡ entries
+  pub fine : IsCanonicalPayload Fine (rows_in f shape) shape p
+  pub reads_as : entries_of read k (rows_in f shape) shape p ≡ entries
 
 -- a list reads as the values that it was built from
-pub record ListBack (Fine : Family → List ℕ → Type 0) (read : Family → List ℕ → List Entry)
-    (f : Family) (used : ℕ) (vs : List BuildValue) (list : List Attribute) : Type 0 where
+pub record ListBack (Fine : Rows → List ℕ → Type 0) (read : Rows → List ℕ → List Entry)
+    (f : Rows) (used : ℕ) (vs : List BuildValue) (list : List Attribute) : Type 0 where
   pub attributes : AllByRecursion IsAttribute list
   pub fine : AllByRecursion (IsCanonicalAttribute Fine f) list
   pub reads_as : entries_among read f (nla_items_of list []) ≡ map entry_of vs
   pub short : used + length (list_string list) ≤ 65531
 
-module _ (inside : Family → List BuildValue → Result (List ℕ) BuildError)
-    (Fine : Family → List ℕ → Type 0) (read : Family → List ℕ → List Entry)
-    (back : (f : Family) (vs : List BuildValue) (p : List ℕ) → AllByRecursion IsHeld vs →
+module _ (inside : Rows → List BuildValue → Result (List ℕ) BuildError)
+    (Fine : Rows → List ℕ → Type 0) (read : Rows → List ℕ → List Entry)
+    (back : (f : Rows) (vs : List BuildValue) (p : List ℕ) → AllByRecursion IsHeld vs →
     inside f vs ≡ Ok p → IsBytes p × (read f p ≡ map entry_of vs) × Fine f p)
-    (f : Family) where
+    (f : Rows) where
   by_datum : (k : ℕ) (shape : Option Shape) (value : Value) (p : List ℕ) → IsHeldValue value →
       datum_payload shape value ≡ Ok p →
       ReadsBack Fine read f k shape p (record { kind = k; meaning = datum value } ∷ [])
@@ -399,11 +398,11 @@ module _ (inside : Family → List BuildValue → Result (List ℕ) BuildError)
         is_bytes = bytes_again shape value w.suits held;
         fine =
             subst
-            (λ (o : Option Family). IsCanonicalPayload Fine o (Some shape) (written shape value))
+            (λ (o : Option Rows). IsCanonicalPayload Fine o (Some shape) (written shape value))
             (sym (plain_alone f shape (suits_plain shape value w.suits)))
             (fine_again shape value w.suits held);
         reads_as =
-            ap (λ (o : Option Family). entries_of read k o (Some shape) (written shape value))
+            ap (λ (o : Option Rows). entries_of read k o (Some shape) (written shape value))
             (plain_alone f shape (suits_plain shape value w.suits))
             ∙ ap (λ (m : Result Value Cause).
             record { kind = k; meaning = datum_or_bytes (written shape value) m } ∷ [])
@@ -428,11 +427,11 @@ module _ (inside : Family → List BuildValue → Result (List ℕ) BuildError)
       tested shape false e h = absurd cc
 
       fine_raw : (shape : Option Shape) → raw_payload shape own ≡ Ok p →
-          IsCanonicalPayload Fine (family_in f shape) shape own
+          IsCanonicalPayload Fine (rows_in f shape) shape own
       fine_raw None h = tt
       fine_raw (Some shape) h =
           let t = tested shape (is_canonical_payload shape own) refl h in
-          subst (λ (o : Option Family). IsCanonicalPayload Fine o (Some shape) own)
+          subst (λ (o : Option Rows). IsCanonicalPayload Fine o (Some shape) own)
           (sym (raw_alone f shape own t))
           (record {
             accepted = λ plain. absurd (raw_not_plain shape own t plain);
@@ -441,12 +440,12 @@ module _ (inside : Family → List BuildValue → Result (List ℕ) BuildError)
           })
 
       alone : (shape : Option Shape) → raw_payload shape own ≡ Ok p →
-          entries_of read k (family_in f shape) shape own
+          entries_of read k (rows_in f shape) shape own
           ≡ record { kind = k; meaning = raw own } ∷ []
       alone None h = refl
       alone (Some shape) h =
           let t = tested shape (is_canonical_payload shape own) refl h in
-          ap (λ (o : Option Family). entries_of read k o (Some shape) own)
+          ap (λ (o : Option Rows). entries_of read k o (Some shape) own)
           (raw_alone f shape own t)
           ∙ ap (λ m. record { kind = k; meaning = m } ∷ []) (raw_again shape own t)
 
@@ -456,12 +455,12 @@ module _ (inside : Family → List BuildValue → Result (List ℕ) BuildError)
       ReadsBack Fine read f k shape p
       (record { kind = k; meaning = list n } ∷ map entry_of (take n more))
   by_list k None n more p held few h = absurd cc
-  by_list k (Some shape) n more p held few h = go (family_in f (Some shape)) refl h
+  by_list k (Some shape) n more p held few h = go (rows_in f (Some shape)) refl h
     where
       size : length (map entry_of (take n more)) ≡ n
       size = length-map (take n more) entry_of ∙ length-take-le n more few
 
-      go : (o : Option Family) → family_in f (Some shape) ≡ o →
+      go : (o : Option Rows) → rows_in f (Some shape) ≡ o →
           list_payload inside (opened_by o n (length more)) n more ≡ Ok p →
           ReadsBack Fine read f k (Some shape) p
           (record { kind = k; meaning = list n } ∷ map entry_of (take n more))
@@ -478,10 +477,10 @@ module _ (inside : Family → List BuildValue → Result (List ℕ) BuildError)
               record {
                 is_bytes = both.0;
                 fine =
-                    subst (λ (o : Option Family). IsCanonicalPayload Fine o (Some shape) p)
+                    subst (λ (o : Option Rows). IsCanonicalPayload Fine o (Some shape) p)
                     (sym is) both.2;
                 reads_as =
-                    ap (λ (o : Option Family). entries_of read k o (Some shape) p) is
+                    ap (λ (o : Option Rows). entries_of read k o (Some shape) p) is
                     ∙ ap (λ (es : List Entry).
                     record { kind = k; meaning = list (length es) } ∷ es) both.1
                     ∙ ap (λ (j : ℕ).
@@ -494,34 +493,34 @@ module _ (inside : Family → List BuildValue → Result (List ℕ) BuildError)
 
   value_back : (v : BuildValue) (more : List BuildValue) (p : List ℕ) → IsHeld v →
       AllByRecursion IsHeld more → payload_with inside f v more ≡ Ok p →
-      ReadsBack Fine read f v.kind (typed_shape_of f v.kind) p (entries_at v more)
+      ReadsBack Fine read f v.kind (shape_in f v.kind) p (entries_at v more)
   value_back v more p held all h = go v.value refl held
     where
       ok : IsOk (payload_with inside f v more)
       ok = is_fine _ p h
 
       go : (value : BuildDatum) → v.value ≡ value → IsHeldDatum value →
-          ReadsBack Fine read f v.kind (typed_shape_of f v.kind) p (entries_at v more)
+          ReadsBack Fine read f v.kind (shape_in f v.kind) p (entries_at v more)
       go value is held =
           subst
-          (λ (x : BuildDatum). ReadsBack Fine read f v.kind (typed_shape_of f v.kind) p
+          (λ (x : BuildDatum). ReadsBack Fine read f v.kind (shape_in f v.kind) p
           (record { kind = v.kind; meaning = meaning_of x }
           ∷ map entry_of (take (inside_count x) more))) (sym is)
           (by value held (sym (as_given inside f v more ok value is) ∙ h)
           (subst (λ (x : BuildDatum). inside_count x ≤ length more) is (few inside f v more ok)))
         where
           by : (value : BuildDatum) → IsHeldDatum value →
-              payload_in inside f (typed_shape_of f v.kind) value more ≡ Ok p →
+              payload_in inside f (shape_in f v.kind) value more ≡ Ok p →
               inside_count value ≤ length more →
-              ReadsBack Fine read f v.kind (typed_shape_of f v.kind) p
+              ReadsBack Fine read f v.kind (shape_in f v.kind) p
               (record { kind = v.kind; meaning = meaning_of value }
               ∷ map entry_of (take (inside_count value) more))
           by (given.Datum d) held e few =
-              by_datum v.kind (typed_shape_of f v.kind) (value_of d) p held e
+              by_datum v.kind (shape_in f v.kind) (value_of d) p held e
           by (given.Raw b) held e few =
-              by_raw v.kind (typed_shape_of f v.kind) b.now p held e
+              by_raw v.kind (shape_in f v.kind) b.now p held e
           by (given.List n) held e few =
-              by_list v.kind (typed_shape_of f v.kind) n more p all few e
+              by_list v.kind (shape_in f v.kind) n more p all few e
 
   -- ---- a list of values
 
@@ -561,7 +560,7 @@ module _ (inside : Family → List BuildValue → Result (List ℕ) BuildError)
       one = attribute_of f v payload
 
       reads_back :
-          ReadsBack Fine read f v.kind (typed_shape_of f v.kind) payload (entries_at v more)
+          ReadsBack Fine read f v.kind (shape_in f v.kind) payload (entries_at v more)
       reads_back = value_back v more payload held.0 held.1 (ok_bytes _ first.payload)
 
       small : v.kind < 16384
@@ -592,8 +591,8 @@ module _ (inside : Family → List BuildValue → Result (List ℕ) BuildError)
               record {
                 kind = ap (λ (j : ℕ). kind_written f j) (sym (kind_back f v.kind small));
                 payload =
-                    subst (λ (j : ℕ). IsCanonicalPayload Fine (family_in f (typed_shape_of f j))
-                    (typed_shape_of f j) payload) (sym (kind_back f v.kind small))
+                    subst (λ (j : ℕ). IsCanonicalPayload Fine (rows_in f (shape_in f j))
+                    (shape_in f j) payload) (sym (kind_back f v.kind small))
                     reads_back.fine;
               },
               later.fine,
@@ -614,7 +613,7 @@ pub items_are : (attrs : List Attribute) → nla_items_of attrs [] ≡ map (λ a
 items_are [] = refl
 items_are (a ∷ more) = ap (λ (ps : List (Result Attribute ℕ)). Ok a ∷ ps) (items_are more)
 
-listed : (k : ℕ) (f : Family) (vs : List BuildValue) (attrs : List Attribute) →
+listed : (k : ℕ) (f : Rows) (vs : List BuildValue) (attrs : List Attribute) →
     ListBack (IsCanonicalUpTo k) (values_up_to k) f 0 vs attrs →
     IsListOf (IsCanonicalUpTo k) f (list_string attrs)
 listed k f vs attrs b = record {
@@ -624,7 +623,7 @@ listed k f vs attrs b = record {
   each = b.fine;
 }
 
-pub level : (k : ℕ) (f : Family) (vs : List BuildValue) (p : List ℕ) → AllByRecursion IsHeld vs →
+pub level : (k : ℕ) (f : Rows) (vs : List BuildValue) (p : List ℕ) → AllByRecursion IsHeld vs →
     list_up_to k f vs ≡ Ok p →
     IsBytes p × (values_up_to k f p ≡ map entry_of vs) × IsCanonicalUpTo k f p
 unfolding list_up_to values_up_to IsCanonicalUpTo
@@ -659,7 +658,7 @@ level (suc k) f vs p held h =
 
 -- ---- arrays
 
-pub whole : (f : Family) (vs : List BuildValue) (attrs : List Attribute) →
+pub whole : (f : Rows) (vs : List BuildValue) (attrs : List Attribute) →
     AllByRecursion IsHeld vs → attributes_of f vs ≡ Ok attrs →
     ListBack (IsCanonicalUpTo 8) (values_up_to 8) f 0 vs attrs
 unfolding attributes_of
@@ -668,12 +667,12 @@ whole f vs attrs held h =
     attrs (omega arith) (omega arith) held h
 
 -- the attributes whose encoding it is
-pub record Encodes (f : Family) (vs : List BuildValue) (p : List ℕ) : Type 0 where
+pub record Encodes (f : Rows) (vs : List BuildValue) (p : List ℕ) : Type 0 where
   pub attrs : List Attribute
   pub are : attributes_of f vs ≡ Ok attrs
   pub is : list_string attrs ≡ p
 
-pub encodes : (f : Family) (vs : List BuildValue) (p : List ℕ) → encoding f vs ≡ Ok p →
+pub encodes : (f : Rows) (vs : List BuildValue) (p : List ℕ) → encoding f vs ≡ Ok p →
     Encodes f vs p
 unfolding encoding
 encodes f vs p h = go (attributes_of f vs) refl h
@@ -687,7 +686,7 @@ encodes f vs p h = go (attributes_of f vs) refl h
       is = good_same (list_string attrs) p (Ok (list_string attrs)) refl h;
     }
 
-pub values_are : (f : Family) (vs : List BuildValue) (p : List ℕ) → AllByRecursion IsHeld vs →
+pub values_are : (f : Rows) (vs : List BuildValue) (p : List ℕ) → AllByRecursion IsHeld vs →
     encoding f vs ≡ Ok p → values_of f p ≡ map entry_of vs
 unfolding values_of values_up_to
 values_are f vs p held h =
@@ -698,7 +697,7 @@ values_are f vs p held h =
     (nla_items-list_string e.attrs b.attributes)
     ∙ b.reads_as
 
-pub canonical_list : (f : Family) (vs : List BuildValue) (p : List ℕ) →
+pub canonical_list : (f : Rows) (vs : List BuildValue) (p : List ℕ) →
     AllByRecursion IsHeld vs → encoding f vs ≡ Ok p → IsCanonicalList f p
 unfolding IsCanonicalList IsCanonicalUpTo
 canonical_list f vs p held h =

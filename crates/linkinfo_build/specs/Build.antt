@@ -28,11 +28,11 @@ use Rattle.nla_frame.specs.Canonical.{bytes_for}
 use Rattle.nla_frame.specs.declared.error.Family.{Family}
 use Rattle.nla_frame.specs.declared.error.Family.TheVariants as family
 use Rattle.linkinfo_shapes.specs.Data.{Value, value_of, written}
-use Rattle.linkinfo_shapes.specs.Typed.{typed_shape_of}
 use Rattle.linkinfo_shapes.specs.declared.shape.Shape.{Shape}
-use Rattle.linkinfo_names.specs.Standing.{family_in}
 use Rattle.linkinfo_build.specs.Bytes.{is_canonical_payload}
+use Rattle.linkinfo_build.specs.Rows.{rows_in, shape_in}
 use Rattle.linkinfo_build.specs.Suits.{is_suited}
+use Rattle.linkinfo_build.specs.declared.rows.Rows.{Rows}
 use Rattle.linkinfo_build.specs.declared.value.BuildCause.{BuildCause}
 use Rattle.linkinfo_build.specs.declared.value.BuildCause.TheVariants as cause
 use Rattle.linkinfo_build.specs.declared.value.BuildDatum.{BuildDatum}
@@ -75,8 +75,8 @@ flagged_rows family.Can = 16 ∷ 17 ∷ 21 ∷ 22 ∷ []
 flagged_rows _ = []
 
 -- the 16 bits of the type of an attribute as it is written
-unfoldable pub kind_written : Family → ℕ → ℕ
-kind_written f kind = if list_any (nat_eq kind) (flagged_rows f) then kind + 32768 else kind
+unfoldable pub kind_written : Rows → ℕ → ℕ
+kind_written f kind = if list_any (nat_eq kind) (flagged_rows f.family) then kind + 32768 else kind
 
 -- ---- payloads
 
@@ -94,44 +94,44 @@ raw_payload None bytes = short bytes
 raw_payload (Some shape) bytes =
     if is_canonical_payload shape bytes then short bytes else refused cause.Bytes
 
--- the family of the values in a list of n values, of so many that follow
-abbrev pub opened_by : Option Family → ℕ → ℕ → Result Family BuildError
+-- the rows of the values in a list of n values, of so many that follow
+abbrev pub opened_by : Option Rows → ℕ → ℕ → Result Rows BuildError
 opened_by None n following = refused cause.NoList
 opened_by (Some inner) n following =
     if nat_le n following then Ok inner else refused cause.Count
 
-abbrev pub opened : Family → Option Shape → ℕ → ℕ → Result Family BuildError
+abbrev pub opened : Rows → Option Shape → ℕ → ℕ → Result Rows BuildError
 opened f None n following = refused cause.NoRow
-opened f (Some shape) n following = opened_by (family_in f (Some shape)) n following
+opened f (Some shape) n following = opened_by (rows_in f (Some shape)) n following
 
 -- the payload of a list of the first n of the values that follow; `inside` is that of a list of
--- values of a family
-abbrev pub list_payload : (Family → List BuildValue → Result (List ℕ) BuildError) →
-    Result Family BuildError → ℕ → List BuildValue → Result (List ℕ) BuildError
+-- values with rows
+abbrev pub list_payload : (Rows → List BuildValue → Result (List ℕ) BuildError) →
+    Result Rows BuildError → ℕ → List BuildValue → Result (List ℕ) BuildError
 list_payload inside (Ok inner) n more = inside inner (take n more)
 list_payload inside (Err e) n more = Err e
 
-abbrev pub payload_in : (Family → List BuildValue → Result (List ℕ) BuildError) → Family →
+abbrev pub payload_in : (Rows → List BuildValue → Result (List ℕ) BuildError) → Rows →
     Option Shape → BuildDatum → List BuildValue → Result (List ℕ) BuildError
 payload_in inside f shape (given.Datum d) more = datum_payload shape (value_of d)
 payload_in inside f shape (given.Raw bytes) more = raw_payload shape bytes.now
 payload_in inside f shape (given.List n) more =
     list_payload inside (opened f shape n (length more)) n more
 
--- the payload of a value of a family, with the values that follow it
-unfoldable pub payload_with : (Family → List BuildValue → Result (List ℕ) BuildError) → Family →
+-- the payload of a value, with the values that follow it
+unfoldable pub payload_with : (Rows → List BuildValue → Result (List ℕ) BuildError) → Rows →
     BuildValue → List BuildValue → Result (List ℕ) BuildError
 payload_with inside f value more =
     if nat_lt 16383 value.kind then refused cause.Flags
-    else payload_in inside f (typed_shape_of f value.kind) value.value more
+    else payload_in inside f (shape_in f value.kind) value.value more
 
 -- ---- attributes
 
 -- the attribute of a value
-abbrev pub attribute_of : Family → BuildValue → List ℕ → Attribute
+abbrev pub attribute_of : Rows → BuildValue → List ℕ → Attribute
 attribute_of f value payload = record { kind = kind_written f value.kind; value = payload }
 
-abbrev pub attribute_with : (Family → List BuildValue → Result (List ℕ) BuildError) → Family →
+abbrev pub attribute_with : (Rows → List BuildValue → Result (List ℕ) BuildError) → Rows →
     BuildValue → List BuildValue → Result Attribute BuildError
 attribute_with inside f value more =
     map_ok (attribute_of f value) (payload_with inside f value more)
@@ -156,7 +156,7 @@ fitted used (Ok a) more =
 
 -- The attributes of a list of values, after so many bytes, in order. The first `skipped` values are
 -- inside a list before them.
-abbrev pub attributes_with : (Family → List BuildValue → Result (List ℕ) BuildError) → Family →
+abbrev pub attributes_with : (Rows → List BuildValue → Result (List ℕ) BuildError) → Rows →
     ℕ → ℕ → List BuildValue → Result (List Attribute) BuildError
 attributes_with inside f used skipped [] = Ok []
 attributes_with inside f used (suc skipped) (value ∷ more) =
@@ -172,20 +172,20 @@ measured_list attributes = measured (map_ok list_string attributes)
 -- ---- lists in lists
 
 -- the payload of a list with these values, in which lists may be so many deep, itself included
-unfoldable pub list_up_to : ℕ → Family → List BuildValue → Result (List ℕ) BuildError
+unfoldable pub list_up_to : ℕ → Rows → List BuildValue → Result (List ℕ) BuildError
 list_up_to zero f values = refused cause.Depth
 list_up_to (suc k) f values =
     after 1 (map_ok list_string (attributes_with (list_up_to k) f 0 0 values))
 
-abbrev pub attributes_up_to : ℕ → Family → List BuildValue → Result (List Attribute) BuildError
+abbrev pub attributes_up_to : ℕ → Rows → List BuildValue → Result (List Attribute) BuildError
 attributes_up_to k f values = attributes_with (list_up_to k) f 0 0 values
 
 -- the attributes of an array, where lists are at most eight deep
-unfoldable pub attributes_of : Family → List BuildValue → Result (List Attribute) BuildError
+unfoldable pub attributes_of : Rows → List BuildValue → Result (List Attribute) BuildError
 attributes_of f values = attributes_up_to 8 f values
 
 -- their encoding
-unfoldable pub encoding : Family → List BuildValue → Result (List ℕ) BuildError
+unfoldable pub encoding : Rows → List BuildValue → Result (List ℕ) BuildError
 encoding f values = map_ok list_string (attributes_of f values)
 
 -- ---- calls

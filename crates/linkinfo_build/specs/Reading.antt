@@ -25,7 +25,6 @@ use Rattle.std.specs.Str.{is_utf8}
 use Rattle.nla_frame.specs.Attribute.{Attribute, IsBytes, masked}
 use Rattle.nla_frame.specs.NlaItems.{nla_items}
 use Rattle.nla_frame.specs.declared.error.Cause.{Cause}
-use Rattle.nla_frame.specs.declared.error.Family.{Family}
 use Rattle.linkinfo_shapes.specs.Data.{
   Value,
   bytes,
@@ -42,9 +41,9 @@ use Rattle.linkinfo_shapes.specs.Data.{
   value_of,
 }
 use Rattle.linkinfo_shapes.specs.Shapes.{IsIpv4, IsIpv6}
-use Rattle.linkinfo_shapes.specs.Typed.{typed_shape_of}
 use Rattle.linkinfo_shapes.specs.declared.shape.Shape.{Shape}
-use Rattle.linkinfo_names.specs.Standing.{family_in}
+use Rattle.linkinfo_build.specs.Rows.{rows_in, shape_in}
+use Rattle.linkinfo_build.specs.declared.rows.Rows.{Rows}
 use Rattle.linkinfo_build.specs.declared.value.BuildDatum.{BuildDatum}
 use Rattle.linkinfo_build.specs.declared.value.BuildDatum.TheVariants as given
 use Rattle.linkinfo_build.specs.declared.value.BuildValue.{BuildValue}
@@ -81,18 +80,18 @@ payload_meaning None payload = raw payload
 payload_meaning (Some shape) payload = datum_or_bytes payload (reads shape payload)
 
 -- the values of an attribute: itself, and if its payload is a list, those inside it
-abbrev pub entries_of : (Family → List ℕ → List Entry) → ℕ → Option Family → Option Shape →
+abbrev pub entries_of : (Rows → List ℕ → List Entry) → ℕ → Option Rows → Option Shape →
     List ℕ → List Entry
 entries_of inside kind None shape payload =
     record { kind = kind; meaning = payload_meaning shape payload } ∷ []
 entries_of inside kind (Some inner) shape payload =
     record { kind = kind; meaning = list (length (inside inner payload)) } ∷ inside inner payload
 
-abbrev pub entries_in : (Family → List ℕ → List Entry) → Family → ℕ → List ℕ → List Entry
+abbrev pub entries_in : (Rows → List ℕ → List Entry) → Rows → ℕ → List ℕ → List Entry
 entries_in inside f kind payload =
-    entries_of inside kind (family_in f (typed_shape_of f kind)) (typed_shape_of f kind) payload
+    entries_of inside kind (rows_in f (shape_in f kind)) (shape_in f kind) payload
 
-abbrev pub entries_among : (Family → List ℕ → List Entry) → Family → List (Result Attribute ℕ) →
+abbrev pub entries_among : (Rows → List ℕ → List Entry) → Rows → List (Result Attribute ℕ) →
     List Entry
 entries_among inside f [] = []
 entries_among inside f ((Err seen) ∷ more) = entries_among inside f more
@@ -100,12 +99,12 @@ entries_among inside f ((Ok a) ∷ more) =
     entries_in inside f (masked a.kind) a.value ++ entries_among inside f more
 
 -- the values of a list of attributes of a family, so many lists deep
-unfoldable pub values_up_to : ℕ → Family → List ℕ → List Entry
+unfoldable pub values_up_to : ℕ → Rows → List ℕ → List Entry
 values_up_to zero f string = []
 values_up_to (suc k) f string = entries_among (values_up_to k) f (nla_items string)
 
 -- the list itself, and those in it up to eight deep
-unfoldable pub values_of : Family → List ℕ → List Entry
+unfoldable pub values_of : Rows → List ℕ → List Entry
 values_of f string = values_up_to 9 f string
 
 -- ---- values that a program can hold

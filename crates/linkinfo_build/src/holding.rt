@@ -5,8 +5,11 @@ ghost use Rattle.std.specs.List.{AllByRecursion};
 ghost use Rattle.std.specs.Str.{is_utf8};
 ghost use Rattle.nla_frame.specs.Attribute.{IsBytes};
 ghost use Rattle.linkinfo_shapes.specs.Data.{value_of};
+ghost use Rattle.std.specs.Option.{option_copied};
+ghost use Rattle.linkinfo_build.specs.LinkLaws.{IsHeldData, IsHeldName};
 ghost use Rattle.linkinfo_build.specs.Reading.{IsHeld, IsHeldValue};
 
+use crate::link::BuildData;
 use crate::value::{BuildDatum, BuildValue};
 use linkinfo_shapes::Datum;
 
@@ -16,6 +19,27 @@ pub fn held(values: &[BuildValue<'_>])
 {
     for value in values {
         held_value(value);
+    }
+}
+
+/// A name is one that a program can hold.
+pub fn held_name(name: Option<&str>)
+    ensures { IsHeldName (option_copied name.entry) }
+{
+    match name {
+        Some(name) => held_text(name),
+        None => {}
+    }
+}
+
+/// Data is such that a program can hold it.
+pub fn held_data(content: &Option<BuildData<'_>>)
+    ensures { IsHeldData content.now }
+{
+    match content {
+        Some(BuildData::Values(values)) => held(values),
+        Some(BuildData::Bytes(bytes)) => held_bytes(bytes),
+        None => {}
     }
 }
 

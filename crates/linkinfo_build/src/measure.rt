@@ -15,15 +15,15 @@ ghost use Rattle.linkinfo_build.specs.Build.{
 };
 
 use crate::bytes::is_canonical_payload;
-use crate::rows::family_inside;
+use crate::rows::{Rows, rows_in, shape_in};
 use crate::suits::is_suited;
 use crate::value::{BuildCause, BuildDatum, BuildError, BuildValue};
-use linkinfo_shapes::{Datum, Shape, datum_len, typed_shape};
-use nla_frame::{Family, fitting};
+use linkinfo_shapes::{Datum, Shape, datum_len};
+use nla_frame::fitting;
 
 /// The maximum length of a payload, also of a list, in bytes: what a 16-bit length field can count,
 /// less the four header bytes.
-const PAYLOAD_LEN_MAX: usize = 65531;
+pub const PAYLOAD_LEN_MAX: usize = 65531;
 
 /// The maximum of a type without its two flag bits (`NLA_TYPE_MASK`).
 const KIND_MAX: u16 = 0x3fff;
@@ -87,19 +87,19 @@ fn raw_payload_len(shape: Option<Shape>, bytes: &[u8]) -> Result<usize, BuildErr
     }
 }
 
-/// The family of the values in a list of `count` values, if so many follow.
+/// The rows of the values in a list of `count` values, if so many follow.
 pub fn opened(
-    family: Family,
+    rows: Rows,
     shape: Option<Shape>,
     count: usize,
     following: usize,
-) -> Result<Family, BuildError>
-    ensures { result ≡ opened family shape count following }
+) -> Result<Rows, BuildError>
+    ensures { result ≡ opened rows shape count following }
 {
     let Some(shape) = shape else {
         return Err(refused(BuildCause::NoRow));
     };
-    let Some(inner) = family_inside(family, shape) else {
+    let Some(inner) = rows_in(rows, shape) else {
         return Err(refused(BuildCause::NoList));
     };
     if count <= following {
@@ -115,11 +115,11 @@ pub fn opened(
 #[tactic(auto, unfolding(crate::specs::Build::payload_with))]
 fn payload_len(
     depth: usize,
-    family: Family,
+    rows: Rows,
     value: &BuildValue<'_>,
     more: &[BuildValue<'_>],
 ) -> Result<usize, BuildError>
-    ensures answer { result ≡ measured (payload_with (list_up_to depth) family value.now more.now) }
+    ensures answer { result ≡ measured (payload_with (list_up_to depth) rows value.now more.now) }
     ensures short { IfOk result (λ len. len ≤ 65531) }
     ensures inside { OnOk result (inside_count value.now.value ≤ length more.now) }
     ensures index { IfErr result (λ e. e.index ≤ length more.now) }
@@ -127,12 +127,12 @@ fn payload_len(
     if value.kind > KIND_MAX {
         return Err(refused(BuildCause::Flags));
     }
-    let shape = typed_shape(family, value.kind);
+    let shape = shape_in(rows, value.kind);
     match &value.value {
         BuildDatum::Datum(datum) => datum_payload_len(shape, datum),
         BuildDatum::Raw(bytes) => raw_payload_len(shape, bytes),
         BuildDatum::List(count) => {
-            let inner = opened(family, shape, *count, more.len())?;
+            let inner = opened(rows, shape, *count, more.len())?;
             inside_len(depth, inner, &more[..*count])
         }
     }
@@ -142,15 +142,15 @@ fn payload_len(
 /// before them.
 #[cycle(measure)]
 #[tactic(auto, unfolding(crate::specs::Build::list_up_to))]
-fn inside_len(depth: usize, family: Family, values: &[BuildValue<'_>]) -> Result<usize, BuildError>
-    ensures answer { result ≡ measured (list_up_to depth family values.now) }
+fn inside_len(depth: usize, rows: Rows, values: &[BuildValue<'_>]) -> Result<usize, BuildError>
+    ensures answer { result ≡ measured (list_up_to depth rows values.now) }
     ensures short { IfOk result (λ len. len ≤ 65531) }
     ensures index { IfErr result (λ e. e.index ≤ length values.now) }
 {
     if depth == 0 {
         return Err(refused(BuildCause::Depth));
     }
-    match list_len(depth - 1, family, values) {
+    match list_len(depth - 1, rows, values) {
         Ok(len) => Ok(len),
         Err(error) => Err(moved(1, error)),
     }
@@ -158,12 +158,8 @@ fn inside_len(depth: usize, family: Family, values: &[BuildValue<'_>]) -> Result
 
 /// The length of a list of these values, where lists may be so many deep in it; or the first error.
 #[cycle(measure)]
-pub fn list_len(
-    depth: usize,
-    family: Family,
-    values: &[BuildValue<'_>],
-) -> Result<usize, BuildError>
-    ensures answer { result ≡ measured_list (attributes_up_to depth family values.now) }
+pub fn list_len(depth: usize, rows: Rows, values: &[BuildValue<'_>]) -> Result<usize, BuildError>
+    ensures answer { result ≡ measured_list (attributes_up_to depth rows values.now) }
     ensures short { IfOk result (λ len. len ≤ 65531) }
     ensures index { IfErr result (λ e. e.index < length values.now) }
 {
@@ -172,7 +168,7 @@ pub fn list_len(
     while at < values.len() {
         let value = &values[at];
         let more = &values[at + 1..];
-        let len = match payload_len(depth, family, value, more) {
+        let len = match payload_len(depth, rows, value, more) {
             Ok(len) => len,
             Err(error) => return Err(moved(at, error)),
         };

@@ -8,7 +8,7 @@ use std::net::{IpAddr, Ipv4Addr, Ipv6Addr};
 use std::process::Abort;
 
 /// Asserts that the actual value of this case is the expected one.
-fn assert_is<T: PartialEq + Debug + Drop>(
+pub fn assert_is<T: PartialEq + Debug + Drop>(
     rt: &impl Abort,
     case: impl Debug + Drop,
     found: T,
@@ -24,11 +24,11 @@ fn datum<'a>(kind: u16, datum: Datum<'a>) -> BuildValue<'a> {
     }
 }
 
-fn number<'a>(kind: u16, number: u64) -> BuildValue<'a> {
+pub fn number<'a>(kind: u16, number: u64) -> BuildValue<'a> {
     datum(kind, Datum::Number(number))
 }
 
-fn raw<'a>(kind: u16, bytes: &'a [u8]) -> BuildValue<'a> {
+pub fn raw<'a>(kind: u16, bytes: &'a [u8]) -> BuildValue<'a> {
     BuildValue {
         kind,
         value: BuildDatum::Raw(bytes),
@@ -43,7 +43,7 @@ fn list<'a>(kind: u16, count: usize) -> BuildValue<'a> {
 }
 
 /// What a buffer has after the bytes at its front, where it had 0xee before.
-fn assert_front(rt: &impl Abort, buffer: &[u8], front: &[u8]) {
+pub fn assert_front(rt: &impl Abort, buffer: &[u8], front: &[u8]) {
     for (place, byte) in buffer.iter().enumerate() {
         let wanted = front.get(place).copied().unwrap_or(0xee);
         assert_is(rt, place, *byte, wanted);

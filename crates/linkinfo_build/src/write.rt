@@ -15,13 +15,13 @@ ghost use Rattle.linkinfo_build.specs.Build.{
 };
 
 use crate::measure::{inside_count, opened};
-use crate::rows::kind_written;
+use crate::rows::{Rows, kind_written, shape_in};
 use crate::value::{BuildDatum, BuildValue};
-use linkinfo_shapes::{Datum, Shape, datum_len, typed_shape, write_datum};
-use nla_frame::{Family, write_bytes, write_frame};
+use linkinfo_shapes::{Datum, Shape, datum_len, write_datum};
+use nla_frame::{write_bytes, write_frame};
 
 /// Writes the payload of a datum, and returns its length.
-fn write_datum_payload(shape: Option<Shape>, datum: &Datum<'_>, buffer: &mut [u8]) -> usize
+pub fn write_datum_payload(shape: Option<Shape>, datum: &Datum<'_>, buffer: &mut [u8]) -> usize
     requires fits { IsOk (datum_payload shape (value_of datum.now)) }
     requires room { length (bytes_in (datum_payload shape (value_of datum.now)))
         ≤ length buffer.old }
@@ -42,22 +42,22 @@ fn write_datum_payload(shape: Option<Shape>, datum: &Datum<'_>, buffer: &mut [u8
 #[cycle(write)]
 fn write_payload(
     depth: usize,
-    family: Family,
+    rows: Rows,
     value: &BuildValue<'_>,
     more: &[BuildValue<'_>],
     buffer: &mut [u8],
 ) -> usize
-    requires fits { IsOk (payload_with (list_up_to depth) family value.now more.now) }
-    requires room { length (bytes_in (payload_with (list_up_to depth) family value.now more.now))
+    requires fits { IsOk (payload_with (list_up_to depth) rows value.now more.now) }
+    requires room { length (bytes_in (payload_with (list_up_to depth) rows value.now more.now))
         ≤ length buffer.old }
-    ensures { Writes (bytes_in (payload_with (list_up_to depth) family value.now more.now))
+    ensures { Writes (bytes_in (payload_with (list_up_to depth) rows value.now more.now))
         buffer.old buffer.new result }
 {
-    let shape = typed_shape(family, value.kind);
+    let shape = shape_in(rows, value.kind);
     match &value.value {
         BuildDatum::Datum(datum) => write_datum_payload(shape, datum, buffer),
         BuildDatum::Raw(bytes) => write_bytes(bytes, buffer),
-        BuildDatum::List(count) => match opened(family, shape, *count, more.len()) {
+        BuildDatum::List(count) => match opened(rows, shape, *count, more.len()) {
             Ok(inner) => write_inside(depth, inner, &more[..*count], buffer),
             Err(_) => unreachable!(),
         },
@@ -66,15 +66,15 @@ fn write_payload(
 
 /// Writes a payload that is a list of these values, and returns its length.
 #[cycle(write)]
-fn write_inside(depth: usize, family: Family, values: &[BuildValue<'_>], buffer: &mut [u8]) -> usize
-    requires fits { IsOk (list_up_to depth family values.now) }
-    requires room { length (bytes_in (list_up_to depth family values.now)) ≤ length buffer.old }
-    ensures { Writes (bytes_in (list_up_to depth family values.now)) buffer.old buffer.new result }
+fn write_inside(depth: usize, rows: Rows, values: &[BuildValue<'_>], buffer: &mut [u8]) -> usize
+    requires fits { IsOk (list_up_to depth rows values.now) }
+    requires room { length (bytes_in (list_up_to depth rows values.now)) ≤ length buffer.old }
+    ensures { Writes (bytes_in (list_up_to depth rows values.now)) buffer.old buffer.new result }
 {
     if depth == 0 {
         unreachable!()
     } else {
-        write_list(depth - 1, family, values, buffer)
+        write_list(depth - 1, rows, values, buffer)
     }
 }
 
@@ -82,38 +82,33 @@ fn write_inside(depth: usize, family: Family, values: &[BuildValue<'_>], buffer:
 #[cycle(write)]
 fn write_value(
     depth: usize,
-    family: Family,
+    rows: Rows,
     value: &BuildValue<'_>,
     more: &[BuildValue<'_>],
     buffer: &mut [u8],
 ) -> usize
-    requires fits { IsOk (payload_with (list_up_to depth) family value.now more.now) }
-    requires short { length (bytes_in (payload_with (list_up_to depth) family value.now more.now))
+    requires fits { IsOk (payload_with (list_up_to depth) rows value.now more.now) }
+    requires short { length (bytes_in (payload_with (list_up_to depth) rows value.now more.now))
         ≤ 65531 }
-    requires room { buffer_len_of (attribute_of family value.now
-        (bytes_in (payload_with (list_up_to depth) family value.now more.now)))
+    requires room { buffer_len_of (attribute_of rows value.now
+        (bytes_in (payload_with (list_up_to depth) rows value.now more.now)))
         ≤ length buffer.old }
-    ensures { WritesAttribute (attribute_of family value.now
-        (bytes_in (payload_with (list_up_to depth) family value.now more.now)))
+    ensures { WritesAttribute (attribute_of rows value.now
+        (bytes_in (payload_with (list_up_to depth) rows value.now more.now)))
         buffer.old buffer.new result }
 {
-    let len = write_payload(depth, family, value, more, &mut buffer[4..]);
-    write_frame(buffer, kind_written(family, value.kind), len);
+    let len = write_payload(depth, rows, value, more, &mut buffer[4..]);
+    write_frame(buffer, kind_written(rows, value.kind), len);
     4 + len.next_multiple_of(4)
 }
 
 /// Writes a list of these values at the front of the buffer, and returns its length.
 #[cycle(write)]
-pub fn write_list(
-    depth: usize,
-    family: Family,
-    values: &[BuildValue<'_>],
-    buffer: &mut [u8],
-) -> usize
-    requires fits { IsOk (attributes_up_to depth family values.now) }
+pub fn write_list(depth: usize, rows: Rows, values: &[BuildValue<'_>], buffer: &mut [u8]) -> usize
+    requires fits { IsOk (attributes_up_to depth rows values.now) }
     requires room { length (bytes_in (map_ok list_string
-        (attributes_up_to depth family values.now))) ≤ length buffer.old }
-    ensures { Writes (bytes_in (map_ok list_string (attributes_up_to depth family values.now)))
+        (attributes_up_to depth rows values.now))) ≤ length buffer.old }
+    ensures { Writes (bytes_in (map_ok list_string (attributes_up_to depth rows values.now)))
         buffer.old buffer.new result }
 {
     let mut at: usize = 0;
@@ -121,7 +116,7 @@ pub fn write_list(
     while at < values.len() {
         let value = &values[at];
         let more = &values[at + 1..];
-        place += write_value(depth, family, value, more, &mut buffer[place..]);
+        place += write_value(depth, rows, value, more, &mut buffer[place..]);
         at += 1 + inside_count(&value.value);
     }
     place

@@ -8,7 +8,7 @@ pub list_len-returns-in-Err-clause-answer : goal.list_len-returns-in-Err-clause-
 list_len-returns-in-Err-clause-answer t c =
     sym
     (c.loop-at.invariant.so_far
-    ∙ measured_fault (list_up_to c.args.depth) c.args.family c.args.values.now c.loop-at.at
+    ∙ measured_fault (list_up_to c.args.depth) c.args.rows c.args.values.now c.loop-at.at
     c.loop-at.total _ c.loop-at-test.true _ (take_rest c.args.values.now (c.loop-at.at + 1))
     c.in-Err.error c.moved.result (sym c.in-Err.ensures.answer) c.moved.ensures)
 
@@ -16,7 +16,7 @@ pub list_len-loop-at-preserved : goal.list_len-loop-at-preserved
 list_len-loop-at-preserved t c = record {
   so_far =
       c.loop-at.invariant.so_far
-      ∙ measured_step (list_up_to c.args.depth) c.args.family c.args.values.now c.loop-at.at
+      ∙ measured_step (list_up_to c.args.depth) c.args.rows c.args.values.now c.loop-at.at
       c.loop-at.total _ c.loop-at-test.true _ (take_rest c.args.values.now (c.loop-at.at + 1))
       c.in-Ok.len (4 + c.next_multiple_of-size.result)
       c.inside_count.result (sym c.in-Ok.ensures.answer) (search (rules, arith))

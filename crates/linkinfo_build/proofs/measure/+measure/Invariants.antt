@@ -20,11 +20,11 @@ decreases-payload_len l = 3 * l.depth + 1
 
 abbrev pub invariant-list_len-loop-at : goal.invariant-list_len-loop-at
 invariant-list_len-loop-at l = record {
-  so_far : measured_list (attributes_up_to l.depth l.family l.values)
+  so_far : measured_list (attributes_up_to l.depth l.rows l.values)
       ≡ after l.at
       (adding l.total
       (measured_list
-      (attributes_with (list_up_to l.depth) l.family l.total 0 (drop l.at l.values))));
+      (attributes_with (list_up_to l.depth) l.rows l.total 0 (drop l.at l.values))));
   within : l.at ≤ length l.values;
   short : l.total ≤ 65531;
 }

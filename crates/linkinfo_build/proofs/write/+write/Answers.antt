@@ -50,18 +50,18 @@ room_for a left rest e = omega (
 
 pub write_inside-unreachable-requires : goal.write_inside-unreachable-requires
 write_inside-unreachable-requires t c =
-    none_at_zero c.args.family c.args.values.now c.args.depth c.if-depth-eq0.true c.requires.fits
+    none_at_zero c.args.rows c.args.values.now c.args.depth c.if-depth-eq0.true c.requires.fits
 
 pub write_inside-write_list-requires : goal.write_inside-write_list-requires
 write_inside-write_list-requires t c =
     let some : 0 < c.args.depth = omega (arith, c.if-depth-eq0.false) in (
       omega (arith, some, c.decreases),
       (
-        inside_ok c.args.family c.args.values.now c.args.depth some c.requires.fits,
+        inside_ok c.args.rows c.args.values.now c.args.depth some c.requires.fits,
         omega (
           arith,
           c.requires.room,
-          ap length (inside_bytes c.args.family c.args.values.now c.args.depth some),
+          ap length (inside_bytes c.args.rows c.args.values.now c.args.depth some),
         ),
       ),
     )
@@ -71,17 +71,17 @@ write_inside-returns t c =
     let some : 0 < c.args.depth = omega (arith, c.if-depth-eq0.false) in
     subst
     (λ (s : List ℕ). Writes s c.args.buffer.now c.write_list.new.buffer c.write_list.result)
-    (sym (inside_bytes c.args.family c.args.values.now c.args.depth some))
+    (sym (inside_bytes c.args.rows c.args.values.now c.args.depth some))
     c.write_list.ensures
 
 pub write_list-write_value-place-requires : goal.write_list-write_value-place-requires
 write_list-write_value-place-requires t c =
     let behind = take_rest c.args.values.now (c.loop-at.at + 1) in
     let goes =
-    goes_at (list_up_to c.args.depth) c.args.family c.args.values.now c.loop-at.at
+    goes_at (list_up_to c.args.depth) c.args.rows c.args.values.now c.loop-at.at
     c.loop-at.place no_value c.loop-at-test.true _ behind c.loop-at.invariant.fits in
     let string =
-    string_at (list_up_to c.args.depth) c.args.family c.args.values.now c.loop-at.at
+    string_at (list_up_to c.args.depth) c.args.rows c.args.values.now c.loop-at.at
     c.loop-at.place no_value c.loop-at-test.true _ behind c.loop-at.invariant.fits _ _ refl
     refl in (
       omega (arith, c.decreases),
@@ -105,7 +105,7 @@ write_list-write_value-place-requires t c =
 pub write_list-overflow_add-at : goal.write_list-overflow_add-at
 write_list-overflow_add-at t c =
     let few =
-    few_at (list_up_to c.args.depth) c.args.family c.args.values.now c.loop-at.at
+    few_at (list_up_to c.args.depth) c.args.rows c.args.values.now c.loop-at.at
     c.loop-at.place no_value c.loop-at-test.true _ (take_rest c.args.values.now (c.loop-at.at + 1))
     c.loop-at.invariant.fits in
     omega (
@@ -120,7 +120,7 @@ write_list-overflow_add-at t c =
 pub write_list-overflow_add-at-in-loop-at : goal.write_list-overflow_add-at-in-loop-at
 write_list-overflow_add-at-in-loop-at t c =
     let few =
-    few_at (list_up_to c.args.depth) c.args.family c.args.values.now c.loop-at.at
+    few_at (list_up_to c.args.depth) c.args.rows c.args.values.now c.loop-at.at
     c.loop-at.place no_value c.loop-at-test.true _ (take_rest c.args.values.now (c.loop-at.at + 1))
     c.loop-at.invariant.fits in
     omega (
@@ -136,11 +136,11 @@ pub write_list-loop-at-preserved : goal.write_list-loop-at-preserved
 write_list-loop-at-preserved t c =
     let behind = take_rest c.args.values.now (c.loop-at.at + 1) in
     let few =
-    few_at (list_up_to c.args.depth) c.args.family c.args.values.now c.loop-at.at
+    few_at (list_up_to c.args.depth) c.args.rows c.args.values.now c.loop-at.at
     c.loop-at.place no_value c.loop-at-test.true _ behind c.loop-at.invariant.fits in
     record {
       fits =
-          ok_at (list_up_to c.args.depth) c.args.family c.args.values.now c.loop-at.at
+          ok_at (list_up_to c.args.depth) c.args.rows c.args.values.now c.loop-at.at
           c.loop-at.place no_value c.loop-at-test.true _ behind c.loop-at.invariant.fits
           c.write_value-place.result c.inside_count.result c.write_value-place.ensures.taken
           c.inside_count.ensures;
@@ -154,7 +154,7 @@ write_list-loop-at-preserved t c =
             c.loop-at-test.true,
           );
       so_far =
-          write_at (list_up_to c.args.depth) c.args.family c.args.values.now c.loop-at.at
+          write_at (list_up_to c.args.depth) c.args.rows c.args.values.now c.loop-at.at
           c.loop-at.place no_value c.loop-at-test.true _ behind c.loop-at.invariant.fits
           c.write_value-place.result c.inside_count.result
           (length c.loop-at.buffer - c.loop-at.place) _ c.args.buffer.now c.loop-at.buffer
@@ -168,8 +168,8 @@ pub write_payload-write_datum_payload-requires-clause-fits :
     goal.write_payload-write_datum_payload-requires-clause-fits
 write_payload-write_datum_payload-requires-clause-fits t c =
     subst (λ (r : Result (List ℕ) BuildError). IsOk r)
-    (by_datum (list_up_to c.args.depth) c.args.family c.args.value.now c.args.more.now
-    c.requires.fits c.typed_shape-shape.result c.typed_shape-shape.ensures c.in-Datum.datum
+    (by_datum (list_up_to c.args.depth) c.args.rows c.args.value.now c.args.more.now
+    c.requires.fits c.shape_in-shape.result c.shape_in-shape.ensures c.in-Datum.datum
     c.in-Datum.is)
     c.requires.fits
 
@@ -177,23 +177,23 @@ pub write_payload-write_datum_payload-requires-clause-room :
     goal.write_payload-write_datum_payload-requires-clause-room
 write_payload-write_datum_payload-requires-clause-room t c =
     subst (λ (r : Result (List ℕ) BuildError). length (bytes_in r) ≤ length c.args.buffer.now)
-    (by_datum (list_up_to c.args.depth) c.args.family c.args.value.now c.args.more.now
-    c.requires.fits c.typed_shape-shape.result c.typed_shape-shape.ensures c.in-Datum.datum
+    (by_datum (list_up_to c.args.depth) c.args.rows c.args.value.now c.args.more.now
+    c.requires.fits c.shape_in-shape.result c.shape_in-shape.ensures c.in-Datum.datum
     c.in-Datum.is)
     c.requires.room
 
 pub write_payload-write_bytes-requires : goal.write_payload-write_bytes-requires
 write_payload-write_bytes-requires t c =
     subst (λ (r : Result (List ℕ) BuildError). length (bytes_in r) ≤ length c.args.buffer.now)
-    (by_raw (list_up_to c.args.depth) c.args.family c.args.value.now c.args.more.now
+    (by_raw (list_up_to c.args.depth) c.args.rows c.args.value.now c.args.more.now
     c.requires.fits c.in-Raw.bytes c.in-Raw.is)
     c.requires.room
 
 pub write_payload-write_inside-requires : goal.write_payload-write_inside-requires
 write_payload-write_inside-requires t c =
     let into =
-    into_list (list_up_to c.args.depth) c.args.family c.args.value.now c.args.more.now
-    c.requires.fits c.typed_shape-shape.result c.typed_shape-shape.ensures c.in-List.count
+    into_list (list_up_to c.args.depth) c.args.rows c.args.value.now c.args.more.now
+    c.requires.fits c.shape_in-shape.result c.shape_in-shape.ensures c.in-List.count
     c.in-List.is c.in-Ok.inner (sym c.opened.ensures ∙ c.in-Ok.is) in (
       omega (arith, c.decreases),
       (
@@ -205,8 +205,8 @@ write_payload-write_inside-requires t c =
 
 pub write_payload-unreachable-requires : goal.write_payload-unreachable-requires
 write_payload-unreachable-requires t c =
-    no_error (list_up_to c.args.depth) c.args.family c.args.value.now c.args.more.now
-    c.requires.fits c.typed_shape-shape.result c.typed_shape-shape.ensures c.in-List.count
+    no_error (list_up_to c.args.depth) c.args.rows c.args.value.now c.args.more.now
+    c.requires.fits c.shape_in-shape.result c.shape_in-shape.ensures c.in-List.count
     c.in-List.is c.in-Err.field-0 (sym c.opened.ensures ∙ c.in-Err.is)
 
 pub write_payload-returns-in-Datum : goal.write_payload-returns-in-Datum
@@ -214,8 +214,8 @@ write_payload-returns-in-Datum t c =
     subst
     (λ (r : Result (List ℕ) BuildError). Writes (bytes_in r) c.args.buffer.now
     c.write_datum_payload.new.buffer c.write_datum_payload.result)
-    (sym (by_datum (list_up_to c.args.depth) c.args.family c.args.value.now c.args.more.now
-    c.requires.fits c.typed_shape-shape.result c.typed_shape-shape.ensures c.in-Datum.datum
+    (sym (by_datum (list_up_to c.args.depth) c.args.rows c.args.value.now c.args.more.now
+    c.requires.fits c.shape_in-shape.result c.shape_in-shape.ensures c.in-Datum.datum
     c.in-Datum.is))
     c.write_datum_payload.ensures
 
@@ -224,7 +224,7 @@ write_payload-returns-in-Raw t c =
     subst
     (λ (r : Result (List ℕ) BuildError). Writes (bytes_in r) c.args.buffer.now
     c.write_bytes.new.buffer c.write_bytes.result)
-    (sym (by_raw (list_up_to c.args.depth) c.args.family c.args.value.now c.args.more.now
+    (sym (by_raw (list_up_to c.args.depth) c.args.rows c.args.value.now c.args.more.now
     c.requires.fits c.in-Raw.bytes c.in-Raw.is))
     c.write_bytes.ensures
 
@@ -233,14 +233,14 @@ write_payload-returns-in-Ok t c =
     subst
     (λ (r : Result (List ℕ) BuildError). Writes (bytes_in r) c.args.buffer.now
     c.write_inside.new.buffer c.write_inside.result)
-    (sym (into_list (list_up_to c.args.depth) c.args.family c.args.value.now c.args.more.now
-    c.requires.fits c.typed_shape-shape.result c.typed_shape-shape.ensures c.in-List.count
+    (sym (into_list (list_up_to c.args.depth) c.args.rows c.args.value.now c.args.more.now
+    c.requires.fits c.shape_in-shape.result c.shape_in-shape.ensures c.in-List.count
     c.in-List.is c.in-Ok.inner (sym c.opened.ensures ∙ c.in-Ok.is)))
     c.write_inside.ensures
 
 pub write_value-kind_written-requires : goal.write_value-kind_written-requires
 write_value-kind_written-requires t c =
-    low (list_up_to c.args.depth) c.args.family c.args.value.now c.args.more.now c.requires.fits
+    low (list_up_to c.args.depth) c.args.rows c.args.value.now c.args.more.now c.requires.fits
 
 pub write_value-returns : goal.write_value-returns
 write_value-returns t c =

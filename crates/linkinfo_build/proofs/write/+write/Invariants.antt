@@ -24,12 +24,12 @@ decreases-write_value l = 4 * l.depth + 2
 
 abbrev pub invariant-write_list-loop-at : goal.invariant-write_list-loop-at
 invariant-write_list-loop-at l =
-    let left = attributes_with (list_up_to l.depth) l.family l.place 0 (drop l.at l.values) in
+    let left = attributes_with (list_up_to l.depth) l.rows l.place 0 (drop l.at l.values) in
     record {
       fits : IsOk left;
       within : l.at ≤ length l.values;
       so_far : Written
-          (bytes_in (map_ok list_string (attributes_up_to l.depth l.family l.values)))
+          (bytes_in (map_ok list_string (attributes_up_to l.depth l.rows l.values)))
           (bytes_in (map_ok list_string left)) l.place l.fn.buffer l.buffer;
     }
 
