@@ -1,6 +1,7 @@
 -- The causes that the error of a list of link info can have over any layer: that of data, by
 -- family, and that of the list itself.
 use Rattle.std.specs.Prelude.{
+  ◌≡◌,
   ℕ,
   ◌==◌,
   ◌-◌,
