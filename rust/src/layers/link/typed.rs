@@ -97,7 +97,9 @@ pub fn next_unmet(have: &[u8], want: &[u8], from: usize) -> Result<Option<Unmet>
 }
 
 /// Returns an iterator over the attributes of the list `want` that the list `have` does not meet,
-/// in order. The error is that of `have`, else that of `want`. Does not allocate.
+/// in order, as `linkinfo::unmet` does. Attributes in the lists of a family are items of their own,
+/// as each mapping of priorities of a VLAN is; over opaque families such a list is one item. The
+/// error is that of `have`, else that of `want`. Does not allocate.
 pub fn unmet<'a>(have: &'a [u8], want: &'a [u8]) -> Result<UnmetAttributes<'a>, ErrorIn> {
     check_both::<Typed<Bytes>>(have, want)?;
     Ok(UnmetAttributes::new(have, want, true))

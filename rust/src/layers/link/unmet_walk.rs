@@ -54,6 +54,10 @@ pub(crate) fn check_both<P: DataLayer>(have: &[u8], want: &[u8]) -> Result<(), E
 /// its first item is what [`first_unmet`] returns, and it has no item if `have` meets all of
 /// `want`. The error is that of `have`, else that of `want`. Does not allocate.
 ///
+/// Both lists are validated, also where they are equal. Each step passes over both once more, so a
+/// walk over many unmet attributes of long lists may be worth ending early. Over a layer of your
+/// own, call [`next_unmet_of`] for each step.
+///
 /// ```
 /// use linkinfo::unmet;
 ///
@@ -62,14 +66,15 @@ pub(crate) fn check_both<P: DataLayer>(have: &[u8], want: &[u8]) -> Result<(), E
 /// let received = *b"\x08\0\x01\0vrf\0";
 /// let wanted = *b"\x08\0\x01\0vrf\0\x0c\0\x02\0\x08\0\x01\0\x0a\0\0\0\x04\0\x03\0";
 /// let mut offsets = Vec::new();
-/// for unmet in unmet(&received, &wanted)? {
-///     offsets.push(unmet.want);
+/// for lacking in unmet(&received, &wanted)? {
+///     offsets.push(lacking.want);
 /// }
 /// assert_eq!(offsets, [8, 20]);
 /// # Ok::<(), linkinfo::ErrorIn>(())
 /// ```
 ///
 /// [`first_unmet`]: crate::layers::link::first_unmet
+/// [`next_unmet_of`]: crate::layers::link::next_unmet_of
 pub fn unmet<'a>(have: &'a [u8], want: &'a [u8]) -> Result<UnmetAttributes<'a>, ErrorIn> {
     check_both::<Bytes>(have, want)?;
     Ok(UnmetAttributes::new(have, want, false))
